@@ -1,0 +1,3 @@
+pub mod Choices
+pub mod Arms
+pub mod Tables

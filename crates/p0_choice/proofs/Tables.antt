@@ -1,0 +1,44 @@
+-- A rule of a whole table, proved by one test that antt computes, and read off at each entry.
+use mathlib.Core.Path.{_≡_, refl, sym, ap, _∙_}
+use mathlib.Core.Bool.{Bool, true, false}
+use mathlib.Core.List.{List, [], _∷_}
+use mathlib.Core.Logic.{_⊎_, inl, inr, ⊎-elim}
+use Prim.Native.Nat.{ℕ, zero, suc, _+_, _≤_, _<_}
+use native.Mathlib.Omega.{arith}
+use lib.Dec.{T, eqb}
+use borrow.Author.Tests.{eqb-true, eqb-false}
+use Rattle.p0_choice.specs.Choice.{pick, among, each, count, same}
+
+pub pick-first : (a b : Bool) → T (pick a b false) → a ≡ true
+pick-first true b t = refl
+pick-first false b t = absurd t
+
+pub pick-second : (a b : Bool) → T (pick a b false) → T b
+pick-second true b t = t
+pick-second false b t = absurd t
+
+-- what passes at each of a list passes at one that is among them
+pub each-among : (p : ℕ → Bool) (ys : List ℕ) → T (each p ys) → (x : ℕ) → among x ys ≡ true → p x ≡ true
+each-among p [] t x e = let z : _≡_ {A = ℕ} 0 1 = cc in absurd (omega arith)
+each-among p (y ∷ ys) t x e = go (eqb x y) refl e (each-among p ys (pick-second (p y) _ t) x)
+  where
+    go : (b : Bool) → eqb x y ≡ b → pick b true (among x ys) ≡ true → (among x ys ≡ true → p x ≡ true) → p x ≡ true
+    go true q h f = ap p (eqb-true x y q) ∙ pick-first (p y) _ t
+    go false q h f = f h
+
+-- what passes at n numbers from i on passes at each of them
+pub each-count : (p : ℕ → Bool) (n i : ℕ) → T (each p (count n i)) → (x : ℕ) → i ≤ x → x < i + n → p x ≡ true
+each-count p zero i t x l h = absurd (omega arith)
+each-count p (suc n) i t x l h =
+    go (eqb i x) refl (λ (k : suc i ≤ x). each-count p n (suc i) (pick-second (p i) _ t) x k (omega arith))
+  where
+    go : (b : Bool) → eqb i x ≡ b → (suc i ≤ x → p x ≡ true) → p x ≡ true
+    go true q f = ap p (sym (eqb-true i x q)) ∙ pick-first (p i) _ t
+    go false q f = f (omega (arith, eqb-false i x q))
+
+-- two tests that say the same are equal
+pub same-true : (a b : Bool) → same a b ≡ true → a ≡ b
+same-true true true e = refl
+same-true true false e = sym e
+same-true false true e = e
+same-true false false e = refl

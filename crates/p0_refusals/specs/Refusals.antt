@@ -1,0 +1,16 @@
+-- Document 01's table of refusals: the number of each.
+use Prim.Native.Nat.{ℕ}
+use Rattle.p0_refusals.specs.declared.Refusal.{Refusal}
+use Rattle.p0_refusals.specs.declared.Refusal.the-variants.{Foreign, Full, Short, Empty, NoUndo, Long, NoWord, Malformed, NoMethod, Unsound}
+
+abbrev pub numberOf : Refusal → ℕ
+numberOf Foreign = 1
+numberOf Full = 2
+numberOf Short = 3
+numberOf Empty = 4
+numberOf NoUndo = 5
+numberOf Long = 6
+numberOf NoWord = 7
+numberOf Malformed = 8
+numberOf NoMethod = 9
+numberOf Unsound = 10

@@ -1,0 +1,44 @@
+ghost use mathlib.Core.Path.{_≡_};
+ghost use Rattle.p0_refusals.specs.Refusals.{numberOf};
+
+// Why a call refuses: a row of document 01's table each, in its order.
+pub enum Refusal {
+    // a code point outside the alphabet
+    Foreign,
+    // a letter must be appended and all cells are used
+    Full,
+    // the lent output is shorter than the answer
+    Short,
+    // last cell to be removed, none there
+    Empty,
+    // undo, and there is nothing to undo
+    NoUndo,
+    // word, raw string, line, or UTF-8 letters or bytes over the limit
+    Long,
+    // no such listed word
+    NoWord,
+    // malformed UTF-8
+    Malformed,
+    // first line of the program is neither `telex` nor `vni`
+    NoMethod,
+    // composition not sound
+    Unsound,
+}
+
+// The refusal's number, as a host sees it.
+pub fn number(refusal: Refusal) -> u32
+    ensures { λ r. ⌜ r ≡ numberOf refusal ⌝ }
+{
+    match refusal {
+        Refusal::Foreign => 1,
+        Refusal::Full => 2,
+        Refusal::Short => 3,
+        Refusal::Empty => 4,
+        Refusal::NoUndo => 5,
+        Refusal::Long => 6,
+        Refusal::NoWord => 7,
+        Refusal::Malformed => 8,
+        Refusal::NoMethod => 9,
+        Refusal::Unsound => 10,
+    }
+}

@@ -1,0 +1,3 @@
+pub mod Alphabet
+pub mod Tones
+pub mod Vowels

@@ -1,0 +1,1 @@
+// The letters of document 01's alphabet, over every u32.
