@@ -17,7 +17,7 @@ use Rattle.p4_rows.proofs.Listed.{joined, parts, listed-in, empty-in}
 use Rattle.p4_spelling.specs.Cut.{beforeVowel, vowelRun, startsGlued, onsetEnd, vowelsEnd, onsetOf, vowelsOf, codaOf}
 use Rattle.p4_spelling.specs.Verdict.{listedIfAny, onsetFits, codaFits, partsFit, fits}
 
-coda-after : (w : Word) → codaOf w ≡ drop (vowelRun (drop (onsetEnd w) w)) (drop (onsetEnd w) w)
+pub coda-after : (w : Word) → codaOf w ≡ drop (vowelRun (drop (onsetEnd w) w)) (drop (onsetEnd w) w)
 unfolding codaOf vowelsEnd
 coda-after w = sym (drop-drop (vowelRun (drop (onsetEnd w) w)) (onsetEnd w) w)
 

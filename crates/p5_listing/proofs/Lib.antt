@@ -1,1 +1,5 @@
 pub mod Plain
+pub mod Quick
+pub mod Computed
+pub mod Complete
+pub mod Cells

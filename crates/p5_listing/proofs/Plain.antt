@@ -10,7 +10,7 @@ use borrow.Author.Tests.{ltb-true, ltb-false, leb-true, eqb-true, eqb-false, eq-
 use lib.ListN.{getD}
 use Rattle.p0_choice.specs.Choice.{pick, among, each, count, same}
 use Rattle.p0_choice.specs.Text.{word}
-use Rattle.p0_choice.proofs.Tables.{each-among, same-true}
+use Rattle.p0_choice.proofs.Tables.{pick-first, pick-second, each-among, same-true}
 use Rattle.p1_letters.specs.Alphabet.{lower, isAsciiCapital, smallBy32, smallBy1, smallHigh, smallNext}
 use Rattle.p1_letters.specs.Tones.{toneOff, offIn, toneRows}
 use Rattle.p4_rows.specs.Rows.{Word}
@@ -159,47 +159,73 @@ letter-settles x = eqb-true (plainLetter (plainLetter x)) (plainLetter x) (every
     settled : (y : ℕ) → Stays y → settles y ≡ true
     settled y s = eq-eqb (plainLetter (plainLetter y)) (plainLetter y) (ap plainLetter (letter-plain y s))
 
-staysForeign : ℕ → Bool
-staysForeign x = same (among (lower (plainLetter x)) (word "fjwz")) (among (lower x) (word "fjwz"))
+toneless-letter : ℕ → Bool
+toneless-letter x = eqb (toneOff (plainLetter x)) (plainLetter x)
 
-letter-foreign : (x : ℕ) → among (lower (plainLetter x)) (word "fjwz") ≡ among (lower x) (word "fjwz")
-unfolding staysForeign plainLetter touched joined word lower isAsciiCapital smallBy32 smallBy1 smallHigh smallNext toneOff offIn toneRows
-letter-foreign x =
-    same-true (among (lower (plainLetter x)) (word "fjwz")) (among (lower x) (word "fjwz")) (every-letter staysForeign kept tt x)
+pub letter-toneless : (x : ℕ) → toneOff (plainLetter x) ≡ plainLetter x
+unfolding toneless-letter plainLetter touched joined word lower isAsciiCapital smallBy32 smallBy1 smallHigh smallNext toneOff offIn toneRows
+letter-toneless x = eqb-true (toneOff (plainLetter x)) (plainLetter x) (every-letter toneless-letter kept tt x)
+  where
+    kept : (y : ℕ) → Stays y → toneless-letter y ≡ true
+    kept y s = eq-eqb (toneOff (plainLetter y)) (plainLetter y) (ap toneOff (letter-plain y s) ∙ s .off ∙ sym (letter-plain y s))
+
+foreign-letter : ℕ → Bool
+foreign-letter x = same (among (plainLetter x) (word "fjwz")) (among (lower x) (word "fjwz"))
+
+letter-foreign : (x : ℕ) → among (plainLetter x) (word "fjwz") ≡ among (lower x) (word "fjwz")
+unfolding foreign-letter plainLetter touched joined word lower isAsciiCapital smallBy32 smallBy1 smallHigh smallNext toneOff offIn toneRows
+letter-foreign x = same-true (among (plainLetter x) (word "fjwz")) (among (lower x) (word "fjwz")) (every-letter foreign-letter kept tt x)
   where
     alike : (b c : Bool) → b ≡ c → same b c ≡ true
     alike true c e = sym e
     alike false c e = rw (← e)
 
-    kept : (y : ℕ) → Stays y → staysForeign y ≡ true
-    kept y s = alike _ _ (ap (λ (z : ℕ). among (lower z) (word "fjwz")) (letter-plain y s))
+    kept : (y : ℕ) → Stays y → foreign-letter y ≡ true
+    kept y s = alike _ _ (ap (λ (z : ℕ). among z (word "fjwz")) (letter-plain y s ∙ sym (s .low)))
 
 cons-both : {x y : ℕ} {u w : Word} → x ≡ y → u ≡ w → x ∷ u ≡ y ∷ w
 cons-both e f = ap₂ (λ (a : ℕ) (b : Word). a ∷ b) e f
 
+plain-nil : plain [] ≡ []
+unfolding plain lowered toneless
+plain-nil = refl
+
 pub plain-cons : (x : ℕ) (w : Word) → plain (x ∷ w) ≡ plainLetter x ∷ plain w
 unfolding plain lowered toneless plainLetter
 plain-cons x w = refl
-
-pub plain-nil : plain [] ≡ []
-unfolding plain lowered toneless
-plain-nil = refl
 
 pub plain-again : (w : Word) → plain (plain w) ≡ plain w
 plain-again [] = ap plain plain-nil
 plain-again (x ∷ w) =
     ap plain (plain-cons x w) ∙ plain-cons (plainLetter x) (plain w) ∙ cons-both (letter-settles x) (plain-again w) ∙ sym (plain-cons x w)
 
-foreign-plain : (w : Word) → hasForeign (lowered (plain w)) ≡ hasForeign (lowered w)
-unfolding plain lowered toneless plainLetter hasForeign
-foreign-plain [] = refl
-foreign-plain (x ∷ w) = ap₂ (λ (a b : Bool). pick a true b) (letter-foreign x) (foreign-plain w)
+-- a word whose letters each are their own lower-case toneless form is its own
+pub each-plain : (w : Word) → T (each (λ (x : ℕ). eqb (plainLetter x) x) w) → plain w ≡ w
+each-plain [] t = plain-nil
+each-plain (x ∷ w) t = plain-cons x w ∙ cons-both (eqb-true (plainLetter x) x (pick-first _ _ t)) (each-plain w (pick-second (eqb (plainLetter x) x) _ t))
 
-form-again : (w : Word) → toneless (lowered (plain w)) ≡ toneless (lowered w)
-unfolding plain
-form-again w = plain-again w
+-- no letter of the word has a tone
+abbrev pub Toneless : Word → Type 0
+Toneless [] = Unit {0}
+Toneless (x ∷ w) = (toneOff x ≡ x) × Toneless w
+
+pub plain-toneless : (w : Word) → Toneless (plain w)
+plain-toneless [] = rw plain-nil tt
+plain-toneless (x ∷ w) = rw (plain-cons x w) (letter-toneless x, plain-toneless w)
+
+-- the verdict on a word that needs no folding
+unfoldable pub core : Word → Bool
+core u = pick (hasForeign u) false (fits u)
+
+foreign-form : (w : Word) → hasForeign (plain w) ≡ hasForeign (lowered w)
+unfolding plain lowered toneless plainLetter hasForeign
+foreign-form [] = refl
+foreign-form (x ∷ w) = ap₂ (λ (a b : Bool). pick a true b) (letter-foreign x) (foreign-form w)
+
+pub verdict-core : (w : Word) → verdict w ≡ core (plain w)
+unfolding verdict core plain
+verdict-core w = ap (λ (b : Bool). pick b false (fits (plain w))) (sym (foreign-form w))
 
 -- a word and its lower-case toneless form have one verdict
 pub verdict-plain : (w : Word) → verdict (plain w) ≡ verdict w
-unfolding verdict
-verdict-plain w = ap₂ (λ (a : Bool) (u : Word). pick a false (fits u)) (foreign-plain w) (form-again w)
+verdict-plain w = verdict-core (plain w) ∙ ap core (plain-again w) ∙ sym (verdict-core w)

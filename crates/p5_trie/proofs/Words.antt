@@ -9,6 +9,7 @@ use native.Mathlib.Omega.{arith}
 use lib.Dec.{T, eqb, ltb, ltb→lt}
 use mir.Facts.{or-yes, and-yes}
 use borrow.Author.Tests.{lt-ltb, le-ltb, eq-eqb, ne-eqb, eqb-true}
+use Rattle.p0_choice.specs.Choice.{pick, each}
 use Rattle.p5_trie.specs.Order.{Before, AtMost}
 use Rattle.p5_trie.specs.Trie.{Trie, none, cell, one, size, nth, upTo}
 use Rattle.p5_trie.proofs.Order.{below-or-not, three-ways}
@@ -295,3 +296,25 @@ sorted (cell c a d s) h =
     let p : T (isAbove c s) × T (isSorted d && isSorted s) = and-yes (isAbove c s) (isSorted d && isSorted s) h in
     let q : T (isSorted d) × T (isSorted s) = and-yes (isSorted d) (isSorted s) (p .1) in
     (above c s (p .0), (sorted d (q .0), sorted s (q .1)))
+
+-- each letter of the trie passes p
+abbrev pub Letters : (ℕ → Bool) → Trie → Type 0
+Letters p none = Unit {0}
+Letters p (cell c a d s) = T (p c) × (Letters p d × Letters p s)
+
+each-cons : (p : ℕ → Bool) (x : ℕ) (w : List ℕ) → T (p x) → T (each p w) → T (each p (x ∷ w))
+each-cons p x w t u = go (p x) t
+  where
+    go : (b : Bool) → T b → T (pick b (each p w) false)
+    go true v = u
+    go false v = v
+
+pub letters-nth : (p : ℕ → Bool) (t : Trie) → Letters p t → (n : ℕ) → n < size t → T (each p (nth t n))
+letters-nth p none l n h = absurd (let z : size none ≡ 0 = size-none in omega arith)
+letters-nth p (cell c a d s) l n h =
+    ⊎-elim (λ k. rw (nth-end c a d s n k) (each-cons p c [] (l .0) tt))
+    (λ k.
+        ⊎-elim (λ m. rw (nth-into c a d s n k m) (each-cons p c (nth d (n - one a)) (l .0) (letters-nth p d (l .1 .0) (n - one a) (omega arith))))
+        (λ m. rw (nth-past c a d s n m) (letters-nth p s (l .1 .1) (n - (one a + size d)) (omega (arith, size-cell c a d s))))
+        (below-or-not n (one a + size d)))
+    (below-or-not n (one a))
