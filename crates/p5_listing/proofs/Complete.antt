@@ -35,8 +35,9 @@ astray fs vs gs o v w = elim (quickForeign fs w) [ true ↦ true | false ↦ ast
 unfoldable tried : Trie → List ℕ → List ℕ → List Word → Word → List ℕ → Word → List ℕ → Word → List ℕ → Word → Bool
 tried t fs vs gs o ro v vr c cr w =
     elim (quickShape o ro v vr c cr) [
-      true ↦ elim (holds t w) [ true ↦ true | false ↦ astray fs vs gs o v w ]
-    | false ↦ true ]
+      | true ↦ elim (holds t w) [ true ↦ true | false ↦ astray fs vs gs o v w ]
+      | false ↦ true
+    ]
 
 -- the rows of a part are computed once for all words that it is in
 unfoldable tryCodas : Trie → List ℕ → List ℕ → List Word → List (List Word) → Word → List ℕ → Word → List ℕ → Bool
@@ -86,11 +87,11 @@ held-at o v c w e po pv pc s n =
     let ro : List ℕ = quickRows 0 onsetRows o in
     let rv : List ℕ = quickRows 0 vowelRows v in
     let at-onset : T (tryVowels listing F vowels G vowelRows codaRows o ro) =
-        each-in (λ (x : Word). tryVowels listing F vowels G vowelRows codaRows x (quickRows 0 onsetRows x)) (parts onsetRows) tries-all o po in
+    each-in (λ (x : Word). tryVowels listing F vowels G vowelRows codaRows x (quickRows 0 onsetRows x)) (parts onsetRows) tries-all o po in
     let at-vowels : T (tryCodas listing F vowels G codaRows o ro v rv) =
-        each-in (λ (x : Word). tryCodas listing F vowels G codaRows o ro x (quickRows 0 vowelRows x)) (parts vowelRows) at-onset v pv in
+    each-in (λ (x : Word). tryCodas listing F vowels G codaRows o ro x (quickRows 0 vowelRows x)) (parts vowelRows) at-onset v pv in
     let at-coda : T (tried listing F vowels G o ro v rv c (quickRows 0 codaRows c) (o ++ (v ++ c))) =
-        each-in (λ (x : Word). tried listing F vowels G o ro v rv x (quickRows 0 codaRows x) (o ++ (v ++ x))) (parts codaRows) at-vowels c pc in
+    each-in (λ (x : Word). tried listing F vowels G o ro v rv x (quickRows 0 codaRows x) (o ++ (v ++ x))) (parts codaRows) at-vowels c pc in
     through (quickShape o ro v rv c (quickRows 0 codaRows c)) (holds listing w) (astray F vowels G o v w)
     (subst (λ (u : Word). T (tried listing F vowels G o ro v rv c (quickRows 0 codaRows c) u)) e at-coda) s n
 

@@ -3,3 +3,5 @@ pub mod Quick
 pub mod Computed
 pub mod Complete
 pub mod Cells
+pub mod Numbering
+pub mod Unique

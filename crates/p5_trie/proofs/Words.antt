@@ -314,7 +314,7 @@ letters-nth p none l n h = absurd (let z : size none ≡ 0 = size-none in omega 
 letters-nth p (cell c a d s) l n h =
     ⊎-elim (λ k. rw (nth-end c a d s n k) (each-cons p c [] (l .0) tt))
     (λ k.
-        ⊎-elim (λ m. rw (nth-into c a d s n k m) (each-cons p c (nth d (n - one a)) (l .0) (letters-nth p d (l .1 .0) (n - one a) (omega arith))))
-        (λ m. rw (nth-past c a d s n m) (letters-nth p s (l .1 .1) (n - (one a + size d)) (omega (arith, size-cell c a d s))))
-        (below-or-not n (one a + size d)))
+    ⊎-elim (λ m. rw (nth-into c a d s n k m) (each-cons p c (nth d (n - one a)) (l .0) (letters-nth p d (l .1 .0) (n - one a) (omega arith))))
+    (λ m. rw (nth-past c a d s n m) (letters-nth p s (l .1 .1) (n - (one a + size d)) (omega (arith, size-cell c a d s))))
+    (below-or-not n (one a + size d)))
     (below-or-not n (one a))
