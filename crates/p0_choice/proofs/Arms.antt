@@ -1,15 +1,16 @@
 -- The arms of a `match` on a number. An arm with the keys ks knows `OneOf ks x`, its keys in ascending order; the last
--- arm knows of each earlier one that x is none of its keys, as the pairs `Missed`.
+-- arm knows of each earlier one that x is none of its keys (`c .match .rest`, the pairs `Missed`).
 use mathlib.Core.Path.{_≡_, refl, sym, ap, _∙_}
 use mathlib.Core.Bool.{Bool, true, false}
 use mathlib.Core.List.{List, [], _∷_, _++_}
 use mathlib.Core.Logic.{_⊎_, inl, inr, ⊎-elim}
 use Prim.Native.Nat.{ℕ}
-use lib.Dec.{T, eqb, eqb→eq}
+use lib.Dec.{T, eqb}
 use types.Run.{OneOf}
-use borrow.Author.Tests.{ne-eqb}
+use borrow.Author.Tests.{eqb-true}
 use Rattle.p0_choice.specs.Choice.{pick, among, each}
 use Rattle.p0_choice.proofs.Choices.{pick-true, pick-false, pick-eq, pick-ne}
+use Rattle.p0_choice.proofs.Tables.{pick-first, pick-second, each-among}
 
 -- an arm of one key: what is right at the key, by computation, is right
 pub arm : {A : Type 0} (f : ℕ → A) (r : A) (x k : ℕ) → x ≡ k → r ≡ f k → r ≡ f x
@@ -37,31 +38,43 @@ pick-some x ks r a b h q = pick-true (among x ks) r a b (sym (among-yes x ks h))
 pub pick-none : {A : Type 0} (x : ℕ) (ks : List ℕ) (r a b : A) → (OneOf ks x → ⊥) → r ≡ b → r ≡ pick (among x ks) a b
 pick-none x ks r a b h q = pick-false (among x ks) r a b (sym (among-no x ks h)) q
 
-pick-first : (a b : Bool) → T (pick a b false) → T a
-pick-first true b t = tt
-pick-first false b t = t
-
-pick-second : (a b : Bool) → T (pick a b false) → T b
-pick-second true b t = t
-pick-second false b t = absurd t
-
 -- an arm of many keys answers r: right where f is r at each of them, a test that computes
 pub arms : (f : ℕ → ℕ) (r x : ℕ) (ks : List ℕ) → OneOf ks x → T (each (λ (k : ℕ). eqb r (f k)) ks) → r ≡ f x
 arms f r x [] h t = absurd h
-arms f r x (k ∷ []) h t = arm f r x k h (eqb→eq r (f k) (pick-first (eqb r (f k)) true t))
+arms f r x (k ∷ []) h t = arm f r x k h (eqb-true r (f k) (pick-first (eqb r (f k)) true t))
 arms f r x (k ∷ (j ∷ ks)) h t =
-    ⊎-elim (λ e. arm f r x k e (eqb→eq r (f k) (pick-first (eqb r (f k)) _ t))) (λ s. arms f r x (j ∷ ks) s (pick-second (eqb r (f k)) _ t)) h
+    ⊎-elim (λ e. arm f r x k e (eqb-true r (f k) (pick-first (eqb r (f k)) _ t))) (λ s. arms f r x (j ∷ ks) s (pick-second (eqb r (f k)) _ t)) h
 
--- what the last arm of a match with one key an arm knows
-abbrev pub Missed : Type 0 → List ℕ → ℕ → Type 0
+-- ---- a test by membership in ys, whatever the order of its letters
+-- an arm whose keys are all in ys answers yes
+pub arm-among : (ys ks : List ℕ) (x : ℕ) → OneOf ks x → T (each (λ (k : ℕ). among k ys) ks) → true ≡ among x ys
+arm-among ys ks x h t = sym (each-among (λ (k : ℕ). among k ys) ks t x (sym (among-yes x ks h)))
+
+-- x is one of the keys of an arm
+abbrev pub amongAny : ℕ → List (List ℕ) → Bool
+amongAny x [] = false
+amongAny x (ks ∷ kss) = pick (among x ks) true (amongAny x kss)
+
+-- what the last arm knows of the arms before it
+abbrev pub Missed : Type 0 → List (List ℕ) → ℕ → Type 0
 Missed N [] x = N
-Missed N (k ∷ ks) x = Missed (N × (x ≡ k → ⊥)) ks x
+Missed N (ks ∷ kss) x = Missed (N × (OneOf ks x → ⊥)) kss x
 
-missed-before : (N : Type 0) (ks : List ℕ) (x : ℕ) → Missed N ks x → N
+missed-before : (N : Type 0) (kss : List (List ℕ)) (x : ℕ) → Missed N kss x → N
 missed-before N [] x m = m
-missed-before N (k ∷ ks) x m = missed-before (N × (x ≡ k → ⊥)) ks x m .0
+missed-before N (ks ∷ kss) x m = missed-before (N × (OneOf ks x → ⊥)) kss x m .0
 
-pub missed : (N : Type 0) (ks : List ℕ) (x : ℕ) → Missed N ks x → among x ks ≡ false
+pub missed : (N : Type 0) (kss : List (List ℕ)) (x : ℕ) → Missed N kss x → amongAny x kss ≡ false
 missed N [] x m = refl
-missed N (k ∷ ks) x m =
-    rw (ne-eqb x k (missed-before (N × (x ≡ k → ⊥)) ks x m .1)) (missed (N × (x ≡ k → ⊥)) ks x m)
+missed N (ks ∷ kss) x m =
+    rw (← among-no x ks (missed-before (N × (OneOf ks x → ⊥)) kss x m .1)) (missed (N × (OneOf ks x → ⊥)) kss x m)
+
+pub not-yes : (a b : Bool) → (a ≡ true → b ≡ true) → b ≡ false → a ≡ false
+not-yes true b f e = sym (f refl) ∙ e
+not-yes false b f e = refl
+
+-- the last arm, where every letter of ys is a key, answers no
+pub rest-among : (N : Type 0) (ys : List ℕ) (kss : List (List ℕ)) (x : ℕ) → Missed N kss x → T (each (λ (k : ℕ). amongAny k kss) ys)
+    → false ≡ among x ys
+rest-among N ys kss x m t =
+    sym (not-yes (among x ys) (amongAny x kss) (λ (e : among x ys ≡ true). each-among (λ (k : ℕ). amongAny k kss) ys t x e) (missed N kss x m))

@@ -1,3 +1,3 @@
 pub mod Choices
-pub mod Arms
 pub mod Tables
+pub mod Arms

@@ -5,8 +5,8 @@ use mathlib.Core.List.{List, [], _∷_}
 use mathlib.Core.Logic.{_⊎_, inl, inr, ⊎-elim}
 use Prim.Native.Nat.{ℕ, zero, suc, _+_, _≤_, _<_}
 use native.Mathlib.Omega.{arith}
-use lib.Dec.{T, eqb}
-use borrow.Author.Tests.{eqb-true, eqb-false}
+use lib.Dec.{T, eqb, leb}
+use borrow.Author.Tests.{eqb-true, eqb-false, leb-true}
 use Rattle.p0_choice.specs.Choice.{pick, among, each, count, same}
 
 pub pick-first : (a b : Bool) → T (pick a b false) → a ≡ true
@@ -26,6 +26,10 @@ each-among p (y ∷ ys) t x e = go (eqb x y) refl e (each-among p ys (pick-secon
     go true q h f = ap p (eqb-true x y q) ∙ pick-first (p y) _ t
     go false q h f = f h
 
+no : {m n : ℕ} (b : Bool) → (b ≡ true → n ≤ m) → m < n → b ≡ false
+no true f h = absurd (omega (arith, f refl))
+no false f h = refl
+
 -- what passes at n numbers from i on passes at each of them
 pub each-count : (p : ℕ → Bool) (n i : ℕ) → T (each p (count n i)) → (x : ℕ) → i ≤ x → x < i + n → p x ≡ true
 each-count p zero i t x l h = absurd (omega arith)
@@ -42,3 +46,10 @@ same-true true true e = refl
 same-true true false e = sym e
 same-true false true e = e
 same-true false false e = refl
+
+-- a number below, or above, every number of a list is not among them
+pub among-below : (ys : List ℕ) (n : ℕ) → T (each (λ (y : ℕ). leb n y) ys) → (x : ℕ) → x < n → among x ys ≡ false
+among-below ys n t x h = no (among x ys) (λ (e : among x ys ≡ true). leb-true n x (each-among (λ (y : ℕ). leb n y) ys t x e)) h
+
+pub among-above : (ys : List ℕ) (n : ℕ) → T (each (λ (y : ℕ). leb y n) ys) → (x : ℕ) → n < x → among x ys ≡ false
+among-above ys n t x h = no (among x ys) (λ (e : among x ys ≡ true). leb-true x n (each-among (λ (y : ℕ). leb y n) ys t x e)) h

@@ -1,1 +1,246 @@
-// The letters of document 01's alphabet, over every u32.
+// The letters of document 01's alphabet: which they are, their case, tone on and off, and the two vowel
+// tests (port order 1). Every function takes every u32; what is no letter is left as it is.
+ghost use mathlib.Core.Path.{_≡_};
+ghost use mathlib.Core.List.{[], _∷_};
+ghost use Rattle.p0_choice.specs.Choice.{among};
+ghost use Rattle.p1_letters.specs.Alphabet.{smallBy32, smallBy1, smallNext, isCapital, inAlphabet, allLetters, isWhiteSpace, asciiLower, asciiUpper, lower as lowerOf, upper as upperOf};
+ghost use Rattle.p1_letters.specs.Tones.{toneColumn, toneFrom, toneOn, toneOff};
+ghost use Rattle.p1_letters.specs.Vowels.{vowels, isVowel, isSpellingVowel};
+
+// à á â ã è é ê ì í ò ó ô õ ù ú ý, whose capitals are 32 less. Two arms, so that no key of one has a
+// neighbour there: neighbours would be taken for a range.
+fn is_small_by_32(x: u32) -> bool
+    ensures { λ r. ⌜ r ≡ among x smallBy32 ⌝ }
+{
+    match x {
+        0xe0 | 0xe2 | 0xe8 | 0xea | 0xec | 0xf2 | 0xf4 | 0xf9 | 0xfd => true,
+        0xe1 | 0xe3 | 0xe9 | 0xed | 0xf3 | 0xf5 | 0xfa => true,
+        _ => false,
+    }
+}
+
+// ă đ ĩ ũ ơ ư, whose capitals are 1 less.
+fn is_small_by_1(x: u32) -> bool
+    ensures { λ r. ⌜ r ≡ among x smallBy1 ⌝ }
+{
+    match x {
+        0x103 | 0x111 | 0x129 | 0x169 | 0x1a1 | 0x1b0 => true,
+        _ => false,
+    }
+}
+
+// These and the odd code points of U+1EA1 to U+1EF9: the small letters whose capitals are 1 less.
+fn is_small_next(x: u32) -> bool
+    ensures { λ r. ⌜ r ≡ smallNext x ⌝ }
+{
+    if x < 0x1ea1 {
+        return is_small_by_1(x);
+    }
+    if 0x1ef9 < x {
+        return false;
+    }
+    x % 2 == 1
+}
+
+// Rust's `is_uppercase` on the alphabet.
+pub fn is_capital(x: u32) -> bool
+    ensures { λ r. ⌜ r ≡ isCapital x ⌝ }
+{
+    if x < 0x41 {
+        return false;
+    }
+    if x <= 0x5a {
+        return true;
+    }
+    if x < 0xe0 {
+        return is_small_by_32(x + 32);
+    }
+    if 0x1ef8 < x {
+        return false;
+    }
+    is_small_next(x + 1)
+}
+
+pub fn in_alphabet(x: u32) -> bool
+    ensures { λ r. ⌜ r ≡ inAlphabet x ⌝ }
+{
+    if x < 0x80 {
+        return true;
+    }
+    if 0x1ea0 <= x {
+        return x <= 0x1ef9;
+    }
+    if is_small_by_32(x) {
+        return true;
+    }
+    if is_small_by_1(x) {
+        return true;
+    }
+    is_capital(x)
+}
+
+pub fn all_letters(s: &[u32]) -> bool
+    ensures { λ r. ⌜ r ≡ allLetters (now (s .entry)) ⌝ }
+{
+    let mut i: usize = 0;
+    while i < s.len() {
+        if !in_alphabet(s[i]) {
+            return false;
+        }
+        i += 1;
+    }
+    true
+}
+
+pub fn is_white_space(x: u32) -> bool
+    ensures { λ r. ⌜ r ≡ isWhiteSpace x ⌝ }
+{
+    if x == 0x20 {
+        return true;
+    }
+    if x < 0x09 {
+        return false;
+    }
+    x <= 0x0d
+}
+
+pub fn ascii_lower(x: u32) -> u32
+    ensures { λ r. ⌜ r ≡ asciiLower x ⌝ }
+{
+    if x < 65 {
+        return x;
+    }
+    if x <= 90 {
+        return x + 32;
+    }
+    x
+}
+
+pub fn ascii_upper(x: u32) -> u32
+    ensures { λ r. ⌜ r ≡ asciiUpper x ⌝ }
+{
+    if x < 97 {
+        return x;
+    }
+    if x <= 122 {
+        return x - 32;
+    }
+    x
+}
+
+pub fn lower(x: u32) -> u32
+    ensures { λ r. ⌜ r ≡ lowerOf x ⌝ }
+{
+    if x < 0x80 {
+        return ascii_lower(x);
+    }
+    if !is_capital(x) {
+        return x;
+    }
+    if x < 0xe0 {
+        return x + 32;
+    }
+    x + 1
+}
+
+pub fn upper(x: u32) -> u32
+    ensures { λ r. ⌜ r ≡ upperOf x ⌝ }
+{
+    if x < 0x80 {
+        return ascii_upper(x);
+    }
+    if is_small_by_32(x) {
+        return x - 32;
+    }
+    if is_small_next(x) {
+        return x - 1;
+    }
+    x
+}
+
+// The one of a vowel's five toned letters that a key asks for, or the letter as it is.
+fn tone_from(ch: u32, tone: u32, sac: u32, huyen: u32, hoi: u32, nga: u32, nang: u32) -> u32
+    ensures { λ r. ⌜ r ≡ toneFrom ch tone (0 ∷ sac ∷ huyen ∷ hoi ∷ nga ∷ nang ∷ []) ⌝ }
+{
+    match tone {
+        49 | 115 => sac,
+        50 | 102 => huyen,
+        51 | 114 => hoi,
+        52 | 120 => nga,
+        53 | 106 => nang,
+        _ => ch,
+    }
+}
+
+// Tone on, as the Rust: a capital vowel gives the small toned letter.
+pub fn apply_tone_to_char(ch: u32, tone: u32) -> u32
+    ensures { λ r. ⌜ r ≡ toneOn ch tone ⌝ }
+{
+    let l = ascii_lower(ch);
+    match l {
+        0x61 => tone_from(ch, tone, 0xe1, 0xe0, 0x1ea3, 0xe3, 0x1ea1),
+        0x103 => tone_from(ch, tone, 0x1eaf, 0x1eb1, 0x1eb3, 0x1eb5, 0x1eb7),
+        0xe2 => tone_from(ch, tone, 0x1ea5, 0x1ea7, 0x1ea9, 0x1eab, 0x1ead),
+        0x65 => tone_from(ch, tone, 0xe9, 0xe8, 0x1ebb, 0x1ebd, 0x1eb9),
+        0xea => tone_from(ch, tone, 0x1ebf, 0x1ec1, 0x1ec3, 0x1ec5, 0x1ec7),
+        0x69 => tone_from(ch, tone, 0xed, 0xec, 0x1ec9, 0x129, 0x1ecb),
+        0x6f => tone_from(ch, tone, 0xf3, 0xf2, 0x1ecf, 0xf5, 0x1ecd),
+        0xf4 => tone_from(ch, tone, 0x1ed1, 0x1ed3, 0x1ed5, 0x1ed7, 0x1ed9),
+        0x1a1 => tone_from(ch, tone, 0x1edb, 0x1edd, 0x1edf, 0x1ee1, 0x1ee3),
+        0x75 => tone_from(ch, tone, 0xfa, 0xf9, 0x1ee7, 0x169, 0x1ee5),
+        0x1b0 => tone_from(ch, tone, 0x1ee9, 0x1eeb, 0x1eed, 0x1eef, 0x1ef1),
+        0x79 => tone_from(ch, tone, 0xfd, 0x1ef3, 0x1ef7, 0x1ef9, 0x1ef5),
+        _ => ch,
+    }
+}
+
+// Tone off. Where a toned letter of a vowel stands beside another (à á, è é, ..), it has an arm of its own.
+pub fn strip_tone(c: u32) -> u32
+    ensures { λ r. ⌜ r ≡ toneOff c ⌝ }
+{
+    match c {
+        0xe0 | 0xe3 | 0x1ea1 | 0x1ea3 => 0x61,
+        0xe1 => 0x61,
+        0x1eaf | 0x1eb1 | 0x1eb3 | 0x1eb5 | 0x1eb7 => 0x103,
+        0x1ea5 | 0x1ea7 | 0x1ea9 | 0x1eab | 0x1ead => 0xe2,
+        0xe8 | 0x1eb9 | 0x1ebb | 0x1ebd => 0x65,
+        0xe9 => 0x65,
+        0x1ebf | 0x1ec1 | 0x1ec3 | 0x1ec5 | 0x1ec7 => 0xea,
+        0xec | 0x129 | 0x1ec9 | 0x1ecb => 0x69,
+        0xed => 0x69,
+        0xf2 | 0xf5 | 0x1ecd | 0x1ecf => 0x6f,
+        0xf3 => 0x6f,
+        0x1ed1 | 0x1ed3 | 0x1ed5 | 0x1ed7 | 0x1ed9 => 0xf4,
+        0x1edb | 0x1edd | 0x1edf | 0x1ee1 | 0x1ee3 => 0x1a1,
+        0xf9 | 0x169 | 0x1ee5 | 0x1ee7 => 0x75,
+        0xfa => 0x75,
+        0x1ee9 | 0x1eeb | 0x1eed | 0x1eef | 0x1ef1 => 0x1b0,
+        0xfd | 0x1ef3 | 0x1ef5 | 0x1ef7 | 0x1ef9 => 0x79,
+        _ => c,
+    }
+}
+
+// One of the twelve small vowels.
+pub fn is_small_vowel(x: u32) -> bool
+    ensures { λ r. ⌜ r ≡ among x vowels ⌝ }
+{
+    match x {
+        0x61 | 0x65 | 0x69 | 0x6f | 0x75 | 0x79 | 0xe2 | 0xea | 0xf4 | 0x103 | 0x1a1 | 0x1b0 =>
+            true,
+        _ => false,
+    }
+}
+
+// The composer's test.
+pub fn is_vowel(ch: u32) -> bool
+    ensures { λ r. ⌜ r ≡ isVowel ch ⌝ }
+{
+    is_small_vowel(ascii_lower(ch))
+}
+
+// The speller's test.
+pub fn is_spelling_vowel(c: u32) -> bool
+    ensures { λ r. ⌜ r ≡ isSpellingVowel c ⌝ }
+{
+    is_small_vowel(strip_tone(c))
+}

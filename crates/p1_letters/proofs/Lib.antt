@@ -1,0 +1,4 @@
+pub mod Alphabet
+pub mod Words
+pub mod Tones
+pub mod Vowels
