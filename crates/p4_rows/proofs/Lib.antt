@@ -1,2 +1,4 @@
 pub mod Words
 pub mod Listed
+pub mod Keys
+pub mod Pairs
