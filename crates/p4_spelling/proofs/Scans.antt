@@ -51,24 +51,20 @@ module _ (w : Word) (s i : ℕ) where
   run-done e l = omega (arith, ap vowelRun (drop-of-length-le w l))
 
 -- ---- the glued starts
-module _ (x y : ℕ) (r : Bool) where
+module _ (x y : ℕ) where
   glue-is : isGlue x y ≡ pick (pick (eqb x 0x71) (pick (eqb y 0x75) true false) false) true (pick (pick (eqb x 0x67) (pick (eqb y 0x69) true false) false) true false)
   unfolding isGlue inList sameWord word words wordsFrom
   glue-is = refl
 
-  pub glue-q : x ≡ 0x71 → r ≡ eqb y 0x75 → r ≡ isGlue x y
-  glue-q e h = h ∙ go (eqb y 0x75) ∙ sym (glue-is ∙ rw e)
-    where
-      go : (b : Bool) → b ≡ pick (pick b true false) true false
-      go true = refl
-      go false = refl
+  alone : (b : Bool) → b ≡ pick (pick b true false) true false
+  alone true = refl
+  alone false = refl
 
-  pub glue-g : (x ≡ 0x71 → ⊥) → x ≡ 0x67 → r ≡ eqb y 0x69 → r ≡ isGlue x y
-  glue-g d e h = h ∙ go (eqb y 0x69) ∙ sym (glue-is ∙ rw e)
-    where
-      go : (b : Bool) → b ≡ pick (pick b true false) true false
-      go true = refl
-      go false = refl
+  pub glue-q : (r : Bool) → x ≡ 0x71 → r ≡ eqb y 0x75 → r ≡ isGlue x y
+  glue-q r e h = h ∙ alone (eqb y 0x75) ∙ sym (glue-is ∙ rw e)
+
+  pub glue-g : (r : Bool) → (x ≡ 0x71 → ⊥) → x ≡ 0x67 → r ≡ eqb y 0x69 → r ≡ isGlue x y
+  glue-g r d e h = h ∙ alone (eqb y 0x69) ∙ sym (glue-is ∙ rw e)
 
   pub glue-none : (x ≡ 0x71 → ⊥) → (x ≡ 0x67 → ⊥) → false ≡ isGlue x y
   glue-none d e = sym (glue-is ∙ rw (ne-eqb x 0x71 d, ne-eqb x 0x67 e))
@@ -156,9 +152,18 @@ module _ (w : Word) where
   pub end-within : (r : ℕ) → r ≡ onsetEnd w → r ≤ length w
   end-within r e = omega (arith, onset-le w)
 
+  -- parts as the code lends them
+  pub whole-rest : (n : ℕ) → n ≤ length w → take (length w - n) (drop n w) ≡ drop n w
+  whole-rest n l = take-all (length w - n) (drop n w) (omega (arith, length-drop n w))
+
+  pub from-start : (n : ℕ) → take (n - 0) w ≡ take n w
+  from-start n = let e : n - 0 ≡ n = omega arith in rw e
+
   -- the run of the rest, lent as a part
   pub places-are : (a b : ℕ) → a ≡ onsetEnd w → b ≡ vowelRun (take (length w - a) (drop a w)) → record { onset = a; vowels = a + b } ≡ placesOf w
   unfolding placesOf vowelsEnd
   places-are a b ea eb =
-      let r : take (length w - a) (drop a w) ≡ drop a w = take-all (length w - a) (drop a w) (omega (arith, length-drop a w)) in
-      rw (eb ∙ ap vowelRun r, ea)
+      rw (eb ∙ ap vowelRun (whole-rest a (end-within a ea)), ea)
+
+  pub rest-long : (a : ℕ) → a ≤ length w → length (take (length w - a) (drop a w)) ≡ length w - a
+  rest-long a l = ap length (whole-rest a l) ∙ length-drop a w
