@@ -29,7 +29,7 @@ parts-join w =
     ∙ take-append-drop (onsetEnd w) w)
 
 -- a word that starts with no vowel has an empty run
-run-empty : (u : Word) → T (isEmpty (take (vowelRun u) u)) → vowelRun u ≡ 0
+pub run-empty : (u : Word) → T (isEmpty (take (vowelRun u) u)) → vowelRun u ≡ 0
 unfolding vowelRun
 run-empty [] t = refl
 run-empty (x ∷ u) t = go (isSpellingVowel x) t

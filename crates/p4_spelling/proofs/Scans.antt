@@ -165,5 +165,6 @@ module _ (w : Word) where
   places-are a b ea eb =
       rw (eb ∙ ap vowelRun (whole-rest a (end-within a ea)), ea)
 
-  pub rest-long : (a : ℕ) → a ≤ length w → length (take (length w - a) (drop a w)) ≡ length w - a
-  rest-long a l = ap length (whole-rest a l) ∙ length-drop a w
+  pub places-within : (a b : ℕ) → a ≡ onsetEnd w → b ≡ vowelRun (take (length w - a) (drop a w)) → a + b ≤ length w
+  unfolding vowelsEnd
+  places-within a b ea eb = omega (arith, eb ∙ ap vowelRun (whole-rest a (end-within a ea)), ap (λ (n : ℕ). vowelRun (drop n w)) ea, ea, vowels-le w)

@@ -92,7 +92,7 @@ fn onset_end(word: &[u32]) -> usize
 
 // The places where any word is cut.
 pub fn cut_at(word: &[u32]) -> Places
-    ensures { λ r. ⌜ r ≡ placesOf (now (word .entry)) ⌝ }
+    ensures { λ r. ⌜ (r ≡ placesOf (now (word .entry))) × (r .onset ≤ r .vowels) × (r .vowels ≤ length (now (word .entry))) ⌝ }
 {
     let onset = onset_end(word);
     let run = vowel_run(&word[onset..]);
@@ -148,5 +148,15 @@ pub fn partition(word: &[u32]) -> Cut
         return Cut::Refused(Refusal::Foreign);
     }
     Cut::At(cut_at(word))
+}
+
+// f j w z.
+fn is_foreign(x: u32) -> bool
+    ensures { λ r. ⌜ r ≡ among x (lettersOf "fjwz") ⌝ }
+{
+    match x {
+        0x66 | 0x6a | 0x77 | 0x7a => true,
+        _ => false,
+    }
 }
 

@@ -1,9 +1,9 @@
 use borrow.Author.Needs.{needs}
-use Rattle.p4_spelling.proofs.Scans.{rest-long, places-are}
+use Rattle.p4_spelling.proofs.Scans.{places-are, places-within}
 use Rattle.p4_spelling.proofs.cut_at.Statement.{statement}
 use Rattle.p4_spelling.proofs.cut_at.Tie as tie
 
-ruleset answers = (needs, rest-long, places-are)
+ruleset answers = (needs, places-are, places-within)
 
 pub cut-at-spec : {M : Type 1} → statement M
 cut-at-spec =
