@@ -23,7 +23,6 @@ pub record Folded (w plain : Word) (i : ℕ) : Type 0 where
   pub clean : hasForeign (lowered w) ≡ hasForeign (lowered (drop i w))
   pub is : toneless (lowered w) ≡ take i plain ++ toneless (lowered (drop i w))
 
-
 long-form : (w : Word) → length (toneless (lowered w)) ≡ length w
 unfolding toneless lowered
 long-form w = length-map (map lower w) toneOff ∙ length-map w lower
@@ -95,6 +94,6 @@ module _ (w plain : Word) (i : ℕ) (k : Folded w plain i) where
       let n : length w - 0 ≡ i = omega (arith, k .within) in
       let d : drop i w ≡ [] = drop-of-length-le w l in
       let g : toneless (lowered w) ≡ take i plain =
-          k .is ∙ ap (λ (u : Word). take i plain ++ toneless (lowered u)) d ∙ ap (λ (u : Word). take i plain ++ u) form-nil ∙ append-nil (take i plain) in
+      k .is ∙ ap (λ (u : Word). take i plain ++ toneless (lowered u)) d ∙ ap (λ (u : Word). take i plain ++ u) form-nil ∙ append-nil (take i plain) in
       by-form w r (ap fits g ∙ ap (λ (m : ℕ). fits (take m plain)) (sym n) ∙ sym e)
       (k .clean ∙ ap (λ (u : Word). hasForeign (lowered u)) d ∙ foreign-nil)

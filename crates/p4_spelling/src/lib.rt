@@ -4,7 +4,6 @@ use p0_refusals::Refusal;
 use p1_letters as letters;
 use p4_rows as rows;
 use p4_rows::Rows;
-
 ghost use mathlib.Core.Path.{_≡_};
 ghost use Prim.Native.Nat.{_≤_};
 ghost use lib.ListN.{length};
@@ -160,3 +159,83 @@ fn is_foreign(x: u32) -> bool
     }
 }
 
+// The onset stands in a row that goes with one of the vowels' rows, or is empty. One that stands in no row is not listed,
+// and goes with none.
+fn onset_fits(onset: &[u32], vowels: Rows) -> bool
+    requires { ⌜ Below 8 vowels ⌝ }
+    ensures { λ r. ⌜ r ≡ onsetFits (now (onset .entry)) (shown vowels) ⌝ }
+{
+    if onset.len() == 0 {
+        return true;
+    }
+    rows::cv_valid(rows::lookup_onset(onset), vowels)
+}
+
+// The same of the coda, whose search is its own: another row of the vowels may answer it.
+fn coda_fits(vowels: Rows, coda: &[u32]) -> bool
+    requires { ⌜ Below 8 vowels ⌝ }
+    ensures { λ r. ⌜ r ≡ codaFits (shown vowels) (now (coda .entry)) ⌝ }
+{
+    if coda.len() == 0 {
+        return true;
+    }
+    rows::vc_valid(vowels, rows::lookup_coda(coda))
+}
+
+// The verdict on a word of small letters without tones.
+fn fits(word: &[u32]) -> bool
+    ensures { λ r. ⌜ r ≡ fitting (now (word .entry)) ⌝ }
+{
+    let at = cut_at(word);
+    let a = at.onset;
+    let b = at.vowels;
+    let onset = &word[0..a];
+    if a == b {
+        return rows::lookup_onset(onset).count != 0;
+    }
+    let vowels = rows::lookup_vowels(&word[a..b]);
+    if vowels.count == 0 {
+        return false;
+    }
+    if !onset_fits(onset, vowels) {
+        return false;
+    }
+    coda_fits(vowels, &word[b..])
+}
+
+// Whether a word is accepted. No accepted word has over 8 letters.
+pub fn accepts(word: &[u32]) -> bool
+    ensures { λ r. ⌜ r ≡ verdict (now (word .entry)) ⌝ }
+{
+    let n = word.len();
+    if 8 < n {
+        return false;
+    }
+    let mut plain = [0u32; 8];
+    let mut i: usize = 0;
+    while i < n {
+        let x = letters::lower(word[i]);
+        if is_foreign(x) {
+            return false;
+        }
+        plain[i] = letters::strip_tone(x);
+        i += 1;
+    }
+    fits(&plain[0..n])
+}
+
+// The verdict on a permitted word.
+pub fn is_valid_vietnamese_syllable(word: &[u32]) -> Verdict
+    ensures { λ r. ⌜ r ≡ verdictAnswer (now (word .entry)) ⌝ }
+{
+    if 64 < word.len() {
+        return Verdict::Refused(Refusal::Long);
+    }
+    if !letters::all_letters(word) {
+        return Verdict::Refused(Refusal::Foreign);
+    }
+    if accepts(word) {
+        return Verdict::Yes;
+    }
+    Verdict::No
+}

@@ -11,5 +11,5 @@ pub coda-part-spec : {M : Type 1} → statement M
 unfolding codaPart
 coda-part-spec =
     tie.close
-    (tie.spec 
+    (tie.spec
     (λ c. search answers) (λ c. search answers) (λ c. search answers) (λ c. search answers) (λ c. search answers) (λ c. search answers) (λ c. search answers) (λ c. search answers) (λ c. search answers))

@@ -8,5 +8,5 @@ ruleset answers = (needs, places-are, places-within)
 pub cut-at-spec : {M : Type 1} → statement M
 cut-at-spec =
     tie.close
-    (tie.spec 
+    (tie.spec
     (λ c κs. search answers) (λ c. search answers) (λ c. search answers) (λ c. search answers) (λ c. search answers) (λ c κs. search answers) (λ c. search answers) (λ c. search answers))

@@ -8,5 +8,5 @@ ruleset answers = (needs, glue-q, glue-g, glue-none)
 pub is-glue-spec : {M : Type 1} → statement M
 is-glue-spec =
     tie.close
-    (tie.spec 
+    (tie.spec
     (λ c. search answers) (λ c. search answers) (λ c. search answers))

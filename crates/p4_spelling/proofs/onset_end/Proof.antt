@@ -9,5 +9,5 @@ ruleset answers = (needs, end-within, not-true, not-false, end-short, end-unglue
 pub onset-end-spec : {M : Type 1} → statement M
 onset-end-spec =
     tie.close
-    (tie.spec 
+    (tie.spec
     (λ c κs. search answers) (λ c. search answers) (λ c. search answers) (λ c. search answers) (λ c κs. search answers) (λ c κs. search answers) (λ c. search answers) (λ c. search answers) (λ c κs. search answers) (λ c κs. search answers) (λ c. search answers) (λ c. search answers))

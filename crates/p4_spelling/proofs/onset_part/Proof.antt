@@ -11,5 +11,5 @@ pub onset-part-spec : {M : Type 1} → statement M
 unfolding onsetPart
 onset-part-spec =
     tie.close
-    (tie.spec 
+    (tie.spec
     (λ c. search answers) (λ c. search answers) (λ c. search answers) (λ c. search answers) (λ c. search answers) (λ c. search answers) (λ c. search answers) (λ c. search answers))

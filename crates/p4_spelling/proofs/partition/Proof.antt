@@ -12,5 +12,5 @@ pub partition-spec : {M : Type 1} → statement M
 unfolding cutAnswer permitted
 partition-spec =
     tie.close
-    (tie.spec 
+    (tie.spec
     (λ c. search answers) (λ c κs. search answers) (λ c. search answers) (λ c κs. search answers) (λ c. search answers))

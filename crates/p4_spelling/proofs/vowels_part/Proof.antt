@@ -10,5 +10,5 @@ pub vowels-part-spec : {M : Type 1} → statement M
 unfolding vowelsPart
 vowels-part-spec =
     tie.close
-    (tie.spec 
+    (tie.spec
     (λ c. search answers) (λ c. search answers) (λ c. search answers) (λ c. search answers) (λ c. search answers) (λ c. search answers) (λ c. search answers) (λ c. search answers) (λ c. search answers) (λ c. search answers) (λ c. search answers) (λ c. search answers))
