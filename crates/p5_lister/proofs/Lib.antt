@@ -1,0 +1,4 @@
+pub mod Walk
+pub mod Spell
+pub mod Copy
+pub mod Answers
