@@ -32,9 +32,10 @@ add-len c = let d : tie.In-loop Inv-loop μ-loop = c .before .before .before in 
 returns : tie.Need-returns Inv-loop μ-loop
 unfolding letters stops
 returns c =
-    let d : tie.In-loop Inv-loop μ-loop = c .before .before .before .before .before in
-    (omega (arith, has-room (d .before .loop .inv) (a-cell d)),
-    ended (d .before .loop .inv) (c .before .before .letter .result) (c .before .wide8 .result) (a-cell d) (c .before .before .letter .ensures) (c .before .wide8 .ensures) (c .if2 .taken))
+    let d : tie.In-loop Inv-loop μ-loop = c .before .before .before .before .before in (
+      omega (arith, has-room (d .before .loop .inv) (a-cell d)),
+      ended (d .before .loop .inv) (c .before .before .letter .result) (c .before .wide8 .result) (a-cell d) (c .before .before .letter .ensures) (c .before .wide8 .ensures) (c .if2 .taken),
+    )
 
 loop-less : tie.Need-loop-less Inv-loop μ-loop
 unfolding downs
