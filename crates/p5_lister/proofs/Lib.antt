@@ -2,3 +2,4 @@ pub mod Walk
 pub mod Spell
 pub mod Copy
 pub mod Answers
+pub mod Meaning
