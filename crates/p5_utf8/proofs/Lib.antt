@@ -1,0 +1,5 @@
+pub mod Grammar
+pub mod CharAt
+pub mod Encode
+pub mod Exact
+pub mod Putting
