@@ -1,3 +1,5 @@
+// UTF-8 by RFC 3629, for all of Unicode: the character at a place of bytes, and the bytes of a code point. The reader and
+// the writer over document 01's alphabet are p5_utf8_read and p5_utf8_write.
 ghost use mathlib.Core.Path.{_≡_};
 ghost use mathlib.Core.List.{[], _∷_, _++_};
 ghost use Prim.Native.Nat.{_+_, _≤_, _<_};
