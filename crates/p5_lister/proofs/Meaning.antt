@@ -10,6 +10,7 @@ use lib.ListN.{length}
 use borrow.Author.Tests.{ltb-true, ltb-false, lt-ltb}
 use Rattle.p0_choice.specs.Choice.{pick}
 use Rattle.p0_choice.proofs.Choices.{pick-both}
+use Rattle.p0_refusals.specs.declared.Refusal.{Refusal}
 use Rattle.p0_refusals.specs.declared.Refusal.the-variants.{Foreign, Short, Long, NoWord}
 use Rattle.p1_letters.specs.Alphabet.{allLetters}
 use Rattle.p4_rows.specs.Rows.{Word}
@@ -19,10 +20,21 @@ use Rattle.p5_listing.specs.Listed.{Numbering, Follows, Last}
 use Rattle.p5_listing.specs.Cells.{listing}
 use Rattle.p5_listing.proofs.Numbering.{numbering, follows, last}
 use Rattle.p5_listing.proofs.Unique.{one-total, one-numbering}
-use Rattle.p5_lister.specs.declared.Answer.{Answer}
-use Rattle.p5_lister.specs.declared.Answer.the-variants.{Done, Refused}
-use Rattle.p5_lister.specs.Answers.{wordAnswer, wordOut, numberAnswer, numberOut, nextAnswer}
+use Rattle.p0_refusals.specs.declared.Answer.{Answer}
+use Rattle.p0_refusals.specs.declared.Answer.the-variants.{Done, Refused}
+use Rattle.p0_refusals.specs.Answers.{Outcome, writes, refuses, answer, output}
+use Rattle.p5_lister.specs.Outcomes.{numbered, following}
 use Rattle.p5_lister.specs.Meaning.{NumberMeans, NextMeans}
+
+-- what holds of the answer to what is written, and of a refusal, holds of the answer
+room-means : (P : Answer → Type 0) (u : Word) (room : ℕ) → (room < length u → P (Refused Short)) → (length u ≤ room → P (Done (length u))) → P (answer (writes u) room)
+unfolding answer
+room-means P u room f g =
+    pick-both P (ltb room (length u)) (Refused Short) (Done (length u)) (λ s. f (ltb-true room (length u) s)) (λ s. g (ltb-false room (length u) s))
+
+refused-means : (P : Answer → Type 0) (r : Refusal) (room : ℕ) → P (Refused r) → P (answer (refuses r) room)
+unfolding answer
+refused-means P r room p = p
 
 module _ (f : ℕ → Word) (total : ℕ) (p : Numbering f total) (n : ℕ) where
   there : 5963 ≡ total
@@ -31,43 +43,40 @@ module _ (f : ℕ → Word) (total : ℕ) (p : Numbering f total) (n : ℕ) wher
   same-word : n < 5963 → nth listing n ≡ f n
   same-word h = one-numbering (nth listing) f 5963 total numbering p n h
 
-  pub number-means : (room : ℕ) → NumberMeans f total n room (numberAnswer n room)
-  unfolding numberAnswer wordAnswer
+  pub number-means : (room : ℕ) → NumberMeans f total n room (answer (numbered n) room)
+  unfolding numbered
   number-means room =
-      pick-both (NumberMeans f total n room) (ltb n 5963) (pick (ltb room (length (nth listing n))) (Refused Short) (Done (length (nth listing n)))) (Refused NoWord)
+      pick-both (λ (u : Outcome). NumberMeans f total n room (answer u room)) (ltb n 5963) (writes (nth listing n)) (refuses NoWord)
       (λ (t : ltb n 5963 ≡ true).
       let h : n < 5963 = ltb-true n 5963 t in
       let e : length (nth listing n) ≡ length (f n) = ap length (same-word h) in
-      pick-both (NumberMeans f total n room) (ltb room (length (nth listing n))) (Refused Short) (Done (length (nth listing n)))
-      (λ (s : ltb room (length (nth listing n)) ≡ true). (omega (arith, there), omega (arith, ltb-true room (length (nth listing n)) s)))
-      (λ (s : ltb room (length (nth listing n)) ≡ false). (omega (arith, there), sym e, ltb-false room (length (nth listing n)) s)))
-      (λ (t : ltb n 5963 ≡ false). omega (arith, there, ltb-false n 5963 t))
+      room-means (NumberMeans f total n room) (nth listing n) room (λ s. (omega (arith, there), omega arith)) (λ s. (omega (arith, there), sym e, s)))
+      (λ (t : ltb n 5963 ≡ false). refused-means (NumberMeans f total n room) NoWord room (omega (arith, there, ltb-false n 5963 t)))
 
-  pub number-writes : n < total → (out : List ℕ) → numberOut n out ≡ wordOut (f n) out
-  unfolding numberOut
-  number-writes h out =
+  pub number-writes : n < total → numbered n ≡ writes (f n)
+  unfolding numbered
+  number-writes h =
       let k : n < 5963 = omega (arith, there) in
-      rw (lt-ltb n 5963 k) (ap (λ (u : Word). wordOut u out) (same-word k))
+      rw (lt-ltb n 5963 k) (ap writes (same-word k))
 
 module _ (w : Word) (room : ℕ) where
-  after-means : NextMeans w room (numberAnswer (upTo listing w) room)
-  unfolding numberAnswer wordAnswer
+  after-means : NextMeans w room (answer (numbered (upTo listing w)) room)
+  unfolding numbered
   after-means =
       let n : ℕ = upTo listing w in
       let u : Word = nth listing (upTo listing w) in
-      pick-both (NextMeans w room) (ltb n 5963) (pick (ltb room (length u)) (Refused Short) (Done (length u))) (Refused NoWord)
+      pick-both (λ (o : Outcome). NextMeans w room (answer o room)) (ltb n 5963) (writes u) (refuses NoWord)
       (λ (t : ltb n 5963 ≡ true).
-      pick-both (NextMeans w room) (ltb room (length u)) (Refused Short) (Done (length u))
-      (λ (s : ltb room (length u) ≡ true). (u, (follows w (ltb-true n 5963 t), ltb-true room (length u) s)))
-      (λ (s : ltb room (length u) ≡ false). (u, (follows w (ltb-true n 5963 t), refl, ltb-false room (length u) s))))
-      (λ (t : ltb n 5963 ≡ false). last w (ltb-false n 5963 t))
+      room-means (NextMeans w room) u room (λ s. (u, (follows w (ltb-true n 5963 t), s))) (λ s. (u, (follows w (ltb-true n 5963 t), refl, s))))
+      (λ (t : ltb n 5963 ≡ false). refused-means (NextMeans w room) NoWord room (last w (ltb-false n 5963 t)))
 
-  pub next-means : NextMeans w room (nextAnswer w room)
-  unfolding nextAnswer permitted
+  pub next-means : NextMeans w room (answer (following w) room)
+  unfolding following permitted
   next-means =
-      pick-both (NextMeans w room) (ltb 64 (length w)) (Refused Long) (pick (allLetters w) (numberAnswer (upTo listing w) room) (Refused Foreign))
-      (λ (t : ltb 64 (length w) ≡ true). ltb-true 64 (length w) t)
+      pick-both (λ (o : Outcome). NextMeans w room (answer o room)) (ltb 64 (length w)) (refuses Long)
+      (pick (allLetters w) (numbered (upTo listing w)) (refuses Foreign))
+      (λ (t : ltb 64 (length w) ≡ true). refused-means (NextMeans w room) Long room (ltb-true 64 (length w) t))
       (λ (t : ltb 64 (length w) ≡ false).
-      pick-both (NextMeans w room) (allLetters w) (numberAnswer (upTo listing w) room) (Refused Foreign)
+      pick-both (λ (o : Outcome). NextMeans w room (answer o room)) (allLetters w) (numbered (upTo listing w)) (refuses Foreign)
       (λ (s : allLetters w ≡ true). after-means)
-      (λ (s : allLetters w ≡ false). s))
+      (λ (s : allLetters w ≡ false). refused-means (NextMeans w room) Foreign room s))

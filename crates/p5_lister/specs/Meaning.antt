@@ -8,8 +8,8 @@ use Rattle.p0_refusals.specs.declared.Refusal.the-variants.{Foreign, Full, Shor
 use Rattle.p1_letters.specs.Alphabet.{allLetters}
 use Rattle.p4_rows.specs.Rows.{Word}
 use Rattle.p5_listing.specs.Listed.{Follows, Last}
-use Rattle.p5_lister.specs.declared.Answer.{Answer}
-use Rattle.p5_lister.specs.declared.Answer.the-variants.{Done, Refused}
+use Rattle.p0_refusals.specs.declared.Answer.{Answer}
+use Rattle.p0_refusals.specs.declared.Answer.the-variants.{Done, Refused}
 
 -- word number n, where f numbers the listed words: it has room; 7, there is none; 3, it has no room
 abbrev pub NumberMeans : (ℕ → Word) → ℕ → ℕ → ℕ → Answer → Type 0

@@ -2,6 +2,7 @@
 // table of shared cells of `p5_listing`, from the last cell to lower ones: cell 0 is none.
 mod cells;
 
+use p0_refusals::Answer;
 use p0_refusals::Refusal;
 use p1_letters as letters;
 ghost use mathlib.Core.Path.{_≡_};
@@ -10,13 +11,8 @@ ghost use Prim.Native.Nat.{_≤_, _<_};
 ghost use lib.ListN.{length, take, drop};
 ghost use Rattle.p5_trie.specs.Trie.{size, nth, upTo};
 ghost use Rattle.p5_listing.specs.Cells.{listing};
-ghost use Rattle.p5_lister.specs.Answers.{numberAnswer, numberOut, nextAnswer, nextOut};
-
-// So many letters were written to the lent output, or the refusal.
-pub enum Answer {
-    Done(usize),
-    Refused(Refusal),
-}
+ghost use Rattle.p0_refusals.specs.Answers.{answer, output};
+ghost use Rattle.p5_lister.specs.Outcomes.{numbered, following};
 
 // How many words are listed.
 const TOTAL: usize = 5963;
@@ -132,8 +128,8 @@ pub fn total() -> usize
 
 // The listed word of number n, from 0.
 pub fn word_number(n: usize, out: &mut [u32]) -> Answer
-    ensures { λ r. ⌜ r ≡ numberAnswer n (length (now (out .entry))) ⌝ }
-    ensures { λ r. ⌜ now (out .exit) ≡ numberOut n (now (out .entry)) ⌝ }
+    ensures { λ r. ⌜ r ≡ answer (numbered n) (length (now (out .entry))) ⌝ }
+    ensures { λ r. ⌜ now (out .exit) ≡ output (numbered n) (now (out .entry)) ⌝ }
 {
     if TOTAL <= n {
         return Answer::Refused(Refusal::NoWord);
@@ -150,8 +146,8 @@ pub fn word_number(n: usize, out: &mut [u32]) -> Answer
 
 // The first listed word after a permitted word, which need not be listed.
 pub fn next_word(word: &[u32], out: &mut [u32]) -> Answer
-    ensures { λ r. ⌜ r ≡ nextAnswer (now (word .entry)) (length (now (out .entry))) ⌝ }
-    ensures { λ r. ⌜ now (out .exit) ≡ nextOut (now (word .entry)) (now (out .entry)) ⌝ }
+    ensures { λ r. ⌜ r ≡ answer (following (now (word .entry))) (length (now (out .entry))) ⌝ }
+    ensures { λ r. ⌜ now (out .exit) ≡ output (following (now (word .entry))) (now (out .entry)) ⌝ }
 {
     if 64 < word.len() {
         return Answer::Refused(Refusal::Long);
