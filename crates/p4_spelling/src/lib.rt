@@ -228,18 +228,18 @@ pub fn accepts(word: &[u32]) -> bool
     fits(&plain[0..n])
 }
 
-// The verdict on a permitted word.
+// The verdict on a permitted word. An accepted word has letters of the alphabet alone, so only the others are asked.
 pub fn is_valid_vietnamese_syllable(word: &[u32]) -> Verdict
     ensures { λ r. ⌜ r ≡ verdictAnswer (now (word .entry)) ⌝ }
 {
     if 64 < word.len() {
         return Verdict::Refused(Refusal::Long);
     }
-    if !letters::all_letters(word) {
-        return Verdict::Refused(Refusal::Foreign);
-    }
     if accepts(word) {
         return Verdict::Yes;
+    }
+    if !letters::all_letters(word) {
+        return Verdict::Refused(Refusal::Foreign);
     }
     Verdict::No
 }
