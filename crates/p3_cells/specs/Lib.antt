@@ -1,3 +1,4 @@
 pub mod Cells
+pub mod Sound
 pub mod Text
 pub mod Written
