@@ -10,14 +10,16 @@ use Rattle.p2_input_method.specs.declared.InputMethod.{InputMethod}
 use Rattle.p3_cells.specs.Cells.{blank}
 use Rattle.p3_cells.specs.declared.Cell.{Cell}
 use Rattle.p3_place.specs.Place.{anyVowel, tonePlace}
-use Rattle.p3_marks.specs.Uo.{Place, none, at, uoPlace, uoMade}
+use Rattle.p3_marks.specs.Uo.{uoPlace, uoMade}
 use Rattle.p3_marks.specs.Ua.{uaPlace, uaMade}
 use Rattle.p3_marks.specs.Mark.{markPlace, markMade}
+use Rattle.p3_marks.specs.declared.Place.{Place}
+use Rattle.p3_marks.specs.declared.Place.the-variants.{Nowhere, At}
 
 -- the cells after a step, or what the later steps make of them
 abbrev pub stepOr : Place → (ℕ → List Cell) → List Cell → List Cell
-stepOr none made later = later
-stepOr (at i) made later = made i
+stepOr Nowhere made later = later
+stepOr (At i) made later = made i
 
 -- *Tone.* "The tone is set on one cell, and only there."
 unfoldable pub withTone : Cell → ℕ → Cell
