@@ -10,7 +10,8 @@ use lib.ListN.{length, getD}
 use borrow.Author.Tests.{eq-eqb, ne-eqb, eqb-true, eqb-false, not-true}
 use Rattle.p0_choice.specs.Choice.{pick, among}
 use Rattle.p1_letters.specs.Alphabet.{asciiLower}
-use Rattle.p2_input_method.specs.Rules.{MarkRule, markRules, markIn, markFor}
+use Rattle.p2_input_method.specs.Rules.{markRules, markIn, markFor}
+use Rattle.p2_input_method.specs.declared.MarkRule.{MarkRule}
 use Rattle.p2_input_method.specs.declared.InputMethod.{InputMethod}
 use Rattle.p3_cells.specs.declared.Cell.{Cell}
 use Rattle.p3_row.specs.Row.{rowCells, bases}

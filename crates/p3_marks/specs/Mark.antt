@@ -6,7 +6,8 @@ use mathlib.Core.List.{List, [], _∷_}
 use lib.Dec.{eqb}
 use lib.ListN.{length, getD, set}
 use Rattle.p0_choice.specs.Choice.{pick, among}
-use Rattle.p2_input_method.specs.Rules.{MarkRule, markRules, markFor}
+use Rattle.p2_input_method.specs.Rules.{markRules, markFor}
+use Rattle.p2_input_method.specs.declared.MarkRule.{MarkRule}
 use Rattle.p2_input_method.specs.declared.InputMethod.{InputMethod}
 use Rattle.p3_cells.specs.Cells.{blank}
 use Rattle.p3_cells.specs.declared.Cell.{Cell}

@@ -4,3 +4,4 @@ pub mod Pairs
 pub mod Places
 pub mod TonePlace
 pub mod Same
+pub mod Bound

@@ -34,7 +34,7 @@ none : (n : ℕ) → Below n []
 unfolding Below
 none n j h = absurd (omega arith)
 
-vowels-below : (n i : ℕ) (xs : List Cell) → i + length xs ≤ n → Below n (vowelPlaces i xs)
+pub vowels-below : (n i : ℕ) (xs : List Cell) → i + length xs ≤ n → Below n (vowelPlaces i xs)
 unfolding vowelPlaces
 vowels-below n i [] h = none n
 vowels-below n i (x ∷ xs) h = go (isVowel (letterOf x)) (vowels-below n (i + 1) xs (omega arith))

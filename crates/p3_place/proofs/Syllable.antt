@@ -87,7 +87,7 @@ module _ (row : List ℕ) (i : ℕ) (e : anySeparates (drop i (rowCells row)) �
   start-whole z = let d : i ≡ 0 = omega arith in started row 0 (omega arith) (whole (rowCells row) (rw d at e))
 
 -- the syllable is what stands from its start on
-last-length : (cs : List Cell) → length (lastSyllable cs) ≤ length cs
+pub last-length : (cs : List Cell) → length (lastSyllable cs) ≤ length cs
 unfolding lastSyllable
 last-length [] = omega arith
 last-length (x ∷ xs) = go (anySeparates xs) (separates x) (last-length xs)

@@ -4,10 +4,10 @@ use mathlib.Core.Bool.{Bool, true, false}
 use mathlib.Core.List.{List, [], _∷_, _++_}
 use lib.ListN.{length, getD, set}
 use Rattle.p0_choice.specs.Choice.{pick}
-use Rattle.p1_letters.specs.Alphabet.{isCapital, asciiLower}
+use Rattle.p1_letters.specs.Alphabet.{asciiLower}
 use Rattle.p2_input_method.specs.Rules.{isToneKey, isHornKey}
 use Rattle.p2_input_method.specs.declared.InputMethod.{InputMethod}
-use Rattle.p3_cells.specs.Cells.{blank}
+use Rattle.p3_cells.specs.Cells.{blank, typed}
 use Rattle.p3_cells.specs.declared.Cell.{Cell}
 use Rattle.p3_place.specs.Place.{anyVowel, tonePlace}
 use Rattle.p3_marks.specs.Uo.{uoPlace, uoMade}
@@ -30,7 +30,7 @@ toneMade cs k = set cs (tonePlace cs) (withTone (getD cs (tonePlace cs) blank) k
 
 -- *Append* "the letter as typed, flag on if capital."
 unfoldable pub appended : List Cell → ℕ → List Cell
-appended cs key = cs ++ (record { base = key; mark = 0; tone = 0; upper = isCapital key } ∷ [])
+appended cs key = cs ++ (typed key ∷ [])
 
 -- *Mark*, else *Append*; k is the key in ASCII lower case
 unfoldable pub markOrLater : InputMethod → List Cell → ℕ → ℕ → List Cell
