@@ -40,6 +40,7 @@ stored s cells key k = set (set cells (s .at) (put s cells key k)) (s .also) (al
 -- the step makes the cells xs of the cells cs, whatever the array has after them
 pub record Makes (s : Step) (cs xs : List Cell) (key k : ℕ) : Type 0 where
   pub count : s .count ≡ length xs
+  pub grows : length cs ≤ s .count
   pub at : s .at < length xs
   pub also : s .also < length xs
   pub cells : (rest : List Cell) → s .count ≤ length cs + length rest → stored s (cs ++ rest) key k ≡ xs ++ drop (s .count - length cs) rest
@@ -59,6 +60,7 @@ tone-makes cs i key k h l =
     let n : length (set cs i (withTone (getD cs i blank) k)) ≡ length cs = length-set cs i (withTone (getD cs i blank) k) in
     record {
       count = sym n;
+      grows = omega arith;
       at = rw n h;
       also = rw n h;
       cells = λ rest r. rw (e, List·getD-append cs rest blank i h, none-more cs rest) (twice cs rest i (withTone (getD cs i blank) k) h);
@@ -70,6 +72,7 @@ mark-makes cs i l key k h =
     let n : length (set cs i (marked (getD cs i blank) l)) ≡ length cs = length-set cs i (marked (getD cs i blank) l) in
     record {
       count = sym n;
+      grows = omega arith;
       at = rw n h;
       also = rw n h;
       cells = λ rest r. rw (List·getD-append cs rest blank i h, none-more cs rest) (twice cs rest i (marked (getD cs i blank) l) h);
@@ -87,6 +90,7 @@ pair-makes cs i key k h =
     let t : suc i < length (set cs i u) = rw (length-set cs i u) h in
     record {
       count = sym n;
+      grows = omega arith;
       at = rw n l;
       also = rw (d, n) h;
       cells = λ rest r. rw (d, List·getD-append cs rest blank i l, List·getD-append cs rest blank (suc i) h, none-more cs rest)
@@ -99,7 +103,7 @@ append-makes : (cs : List Cell) (key k : ℕ)
 unfolding appended stored putCell alsoCell
 append-makes cs key k =
     let n : length (cs ++ (typed key ∷ [])) ≡ length cs + 1 = rw (length-append cs (typed key ∷ [])) refl in
-    record { count = sym n; at = rw n (omega arith); also = rw n (omega arith); cells = λ rest r. ends rest r }
+    record { count = sym n; grows = omega arith; at = rw n (omega arith); also = rw n (omega arith); cells = λ rest r. ends rest r }
   where
     ends : (rest : List Cell) → length cs + 1 ≤ length cs + length rest
         → stored (record { change = Append; at = length cs; also = length cs; mark = 0; count = length cs + 1 }) (cs ++ rest) key k
