@@ -1,0 +1,1 @@
+// The rows of a part of a word, and the two matrices.
