@@ -66,10 +66,10 @@ unfoldable pub finishKeys : Phase → List ℕ → List ℕ
 finishKeys p [] = []
 finishKeys p (b ∷ l) = endOut p (b ∷ l)
 
+unfoldable pub finishOf : Phase → List ℕ → List ℕ
+finishOf Start l = endOut Start l
+finishOf (Keys m) l = finishKeys (Keys m) l
+finishOf Ended l = []
+
 unfoldable pub finishOut : State → List ℕ
 finishOut s = finishOf (s .phase) (s .held)
-  where
-    finishOf : Phase → List ℕ → List ℕ
-    finishOf Start l = endOut Start l
-    finishOf (Keys m) l = finishKeys (Keys m) l
-    finishOf Ended l = []
