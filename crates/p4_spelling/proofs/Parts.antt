@@ -11,10 +11,10 @@ use Rattle.p0_choice.specs.Choice.{pick, each}
 use Rattle.p0_choice.specs.Text.{word, words, wordsFrom}
 use Rattle.p1_letters.specs.Vowels.{isSpellingVowel}
 use Rattle.p4_rows.specs.Rows.{Word, onsetRows, vowelRows, codaRows}
-use Rattle.p4_rows.specs.Lookup.{inList, listed, isEmpty}
+use Rattle.p4_rows.specs.Lookup.{inList, rowsOf, listed, isEmpty}
 use Rattle.p4_rows.proofs.Words.{both-of, each-in}
 use Rattle.p4_rows.proofs.Listed.{joined, parts, listed-in, empty-in}
-use Rattle.p4_spelling.specs.Cut.{beforeVowel, vowelRun, startsGlued, onsetEnd, vowelsEnd, onsetOf, vowelsOf, codaOf}
+use Rattle.p4_spelling.specs.Cut.{beforeVowel, vowelRun, isGlue, startsGlued, onsetEnd, vowelsEnd, onsetOf, vowelsOf, codaOf}
 use Rattle.p4_spelling.specs.Verdict.{listedIfAny, onsetFits, codaFits, partsFit, fits}
 
 pub coda-after : (w : Word) → codaOf w ≡ drop (vowelRun (drop (onsetEnd w) w)) (drop (onsetEnd w) w)
@@ -29,7 +29,7 @@ parts-join w =
     ∙ take-append-drop (onsetEnd w) w)
 
 -- a word that starts with no vowel has an empty run
-run-empty : (u : Word) → T (isEmpty (take (vowelRun u) u)) → vowelRun u ≡ 0
+pub run-empty : (u : Word) → T (isEmpty (take (vowelRun u) u)) → vowelRun u ≡ 0
 unfolding vowelRun
 run-empty [] t = refl
 run-empty (x ∷ u) t = go (isSpellingVowel x) t
@@ -55,7 +55,7 @@ unfolding startsGlued vowelRun
 glued-vowel [] g e = g
 glued-vowel (x ∷ []) g e = g
 glued-vowel (x ∷ y ∷ []) g e = g
-glued-vowel (x ∷ y ∷ z ∷ w) g e = go (isSpellingVowel z) (both-of (inList (x ∷ y ∷ []) (words "qu gi")) (isSpellingVowel z) g .1) e
+glued-vowel (x ∷ y ∷ z ∷ w) g e = go (isSpellingVowel z) (both-of (isGlue x y) (isSpellingVowel z) g .1) e
   where
     go : (b : Bool) → T b → pick b (suc (vowelRun w)) 0 ≡ 0 → ⊥
     go true t q = omega arith
@@ -98,7 +98,7 @@ some-in w t =
     let o : Word = onsetOf w in
     let v : Word = vowelsOf w in
     let c : Word = codaOf w in
-    let F : Bool = pick (onsetFits o v) (codaFits v c) false in
+    let F : Bool = pick (onsetFits o (rowsOf vowelRows v)) (codaFits (rowsOf vowelRows v) c) false in
     let p : T (listedIfAny onsetRows o) × T (pick (listed vowelRows v) (pick (listedIfAny codaRows c) F false) false) =
     both-of (listedIfAny onsetRows o) (pick (listed vowelRows v) (pick (listedIfAny codaRows c) F false) false) t in
     let q : T (listed vowelRows v) × T (pick (listedIfAny codaRows c) F false) = both-of (listed vowelRows v) (pick (listedIfAny codaRows c) F false) (p .1) in

@@ -19,12 +19,16 @@ unfoldable pub vowelRun : Word → ℕ
 vowelRun [] = 0
 vowelRun (x ∷ xs) = pick (isSpellingVowel x) (suc (vowelRun xs)) 0
 
+-- q u or g i
+unfoldable pub isGlue : ℕ → ℕ → Bool
+isGlue x y = inList (x ∷ y ∷ []) (words "qu gi")
+
 -- "the word starts q u or g i with that vowel second and another vowel third"
 unfoldable pub startsGlued : Word → Bool
 startsGlued [] = false
 startsGlued (x ∷ []) = false
 startsGlued (x ∷ y ∷ []) = false
-startsGlued (x ∷ y ∷ z ∷ w) = pick (inList (x ∷ y ∷ []) (words "qu gi")) (isSpellingVowel z) false
+startsGlued (x ∷ y ∷ z ∷ w) = pick (isGlue x y) (isSpellingVowel z) false
 
 -- "the onset ends at the first speller vowel; if the word starts .. it ends after two letters"; "No vowel: all is onset."
 unfoldable pub onsetEnd : Word → ℕ

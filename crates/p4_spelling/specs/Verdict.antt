@@ -19,15 +19,14 @@ hasForeign (x ∷ xs) = pick (among x (word "fjwz")) true (hasForeign xs)
 unfoldable pub listedIfAny : List (List Word) → Word → Bool
 listedIfAny rows part = pick (isEmpty part) true (listed rows part)
 
--- "The search over onset rows and vowel rows ends at the first pair allowed." "No onset .. : that search passes."
-unfoldable pub onsetFits : Word → Word → Bool
-onsetFits onset vowels =
-    pick (isEmpty onset) true (goTogether onsetToVowels (rowsOf onsetRows onset) (rowsOf vowelRows vowels))
+-- the onset, with the rows that the vowels stand in: "The search over onset rows and vowel rows ends at the first pair
+-- allowed." "No onset .. : that search passes."
+unfoldable pub onsetFits : Word → List ℕ → Bool
+onsetFits onset rows = pick (isEmpty onset) true (goTogether onsetToVowels (rowsOf onsetRows onset) rows)
 
 -- "The coda has its own search over all vowel rows." "No .. coda: that search passes."
-unfoldable pub codaFits : Word → Word → Bool
-codaFits vowels coda =
-    pick (isEmpty coda) true (goTogether vowelsToCoda (rowsOf vowelRows vowels) (rowsOf codaRows coda))
+unfoldable pub codaFits : List ℕ → Word → Bool
+codaFits rows coda = pick (isEmpty coda) true (goTogether vowelsToCoda rows (rowsOf codaRows coda))
 
 -- "Otherwise each part present must be listed, and two matrices of row numbers say which rows go together."
 unfoldable pub partsFit : Word → Word → Word → Bool
@@ -35,7 +34,7 @@ partsFit onset vowels coda =
     pick (listedIfAny onsetRows onset)
     (pick (listed vowelRows vowels)
     (pick (listedIfAny codaRows coda)
-    (pick (onsetFits onset vowels) (codaFits vowels coda) false)
+    (pick (onsetFits onset (rowsOf vowelRows vowels)) (codaFits (rowsOf vowelRows vowels) coda) false)
     false)
     false)
     false

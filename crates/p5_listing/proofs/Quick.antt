@@ -12,7 +12,7 @@ use Rattle.p1_letters.specs.Tones.{toneOff}
 use Rattle.p1_letters.specs.Vowels.{isSpellingVowel, vowels}
 use Rattle.p4_rows.specs.Rows.{Word, onsetRows, vowelRows, codaRows, onsetToVowels, vowelsToCoda}
 use Rattle.p4_rows.specs.Lookup.{sameWord, inList, rowsFrom, rowsOf, listed, isEmpty, goTogether}
-use Rattle.p4_spelling.specs.Cut.{beforeVowel, vowelRun, startsGlued, onsetEnd, vowelsEnd, onsetOf, vowelsOf, codaOf}
+use Rattle.p4_spelling.specs.Cut.{beforeVowel, vowelRun, isGlue, startsGlued, onsetEnd, vowelsEnd, onsetOf, vowelsOf, codaOf}
 use Rattle.p4_spelling.specs.Verdict.{hasForeign, listedIfAny, onsetFits, codaFits, partsFit, fits}
 use Rattle.p4_spelling.proofs.Parts.{coda-after}
 use Rattle.p5_listing.proofs.Plain.{Toneless, core}
@@ -98,7 +98,7 @@ quick-run (x ∷ w) t =
     (ap suc (quick-run w (t .1))) refl
 
 quick-glued : (w : Word) → Toneless w → quickGlued vowels (words "qu gi") w ≡ startsGlued w
-unfolding quickGlued startsGlued
+unfolding quickGlued startsGlued isGlue
 quick-glued [] t = refl
 quick-glued (x ∷ []) t = refl
 quick-glued (x ∷ y ∷ []) t = refl
