@@ -11,7 +11,7 @@ use borrow.Author.Tests.{lt-ltb, ltb-true, ltb-false}
 use Rattle.p0_choice.specs.Choice.{pick}
 use Rattle.p2_input_method.specs.declared.InputMethod.{InputMethod}
 use Rattle.p0_refusals.specs.declared.Refusal.the-variants.{Long}
-use Rattle.p5_utf8.specs.Answers.{refuses}
+use Rattle.p0_refusals.specs.Answers.{refuses}
 use Rattle.p5_utf8_read.specs.Read.{reading}
 use Rattle.p7_line.specs.Line.{lineOut}
 use Rattle.p7_line.specs.Method.{methodOf}

@@ -1,2 +1,5 @@
 pub mod Bounded
 pub mod Written
+pub mod SameWord
+pub mod Keys
+pub mod Texts

@@ -7,7 +7,7 @@ use Rattle.p0_choice.specs.Text.{word}
 use Rattle.p0_refusals.specs.declared.Refusal.the-variants.{NoMethod}
 use Rattle.p2_input_method.specs.declared.InputMethod.the-variants.{Telex, Vni}
 use Rattle.p4_rows.specs.Lookup.{sameWord}
-use Rattle.p5_utf8.specs.Answers.{Outcome, writes, refuses}
+use Rattle.p0_refusals.specs.Answers.{Outcome, writes, refuses}
 use Rattle.p5_utf8_read.specs.Read.{reading}
 use Rattle.p7_line.specs.declared.Begun.{Begun}
 use Rattle.p7_line.specs.declared.Begun.the-variants.{With, Refused}
