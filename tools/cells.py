@@ -128,9 +128,10 @@ listing = trieAt {count - 1}
 
 
 def constants(tables):
+    # one number a line, as the formatter lays arrays out
     text = "// The table of cells that specs/Cells.antt of p5_listing defines; written by tools/cells.py.\n"
     for name, say, numbers, kind in tables:
-        text += f"\n// {say}\npub const {name.upper()}: [{kind}; {len(numbers)}] = [\n" + lines(numbers, "{},", 16) + "\n];\n"
+        text += f"\n// {say}\npub const {name.upper()}: [{kind}; {len(numbers)}] = [\n" + lines(numbers, "{},", 1) + "\n];\n"
     return text
 
 
