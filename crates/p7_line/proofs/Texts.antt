@@ -20,7 +20,7 @@ use Rattle.p5_utf8.specs.Rfc3629.{encodeAll}
 use Rattle.p5_utf8_write.specs.Write.{writing}
 use Rattle.p5_utf8_write.proofs.Alphabet.{few-bytes}
 use Rattle.p7_line.specs.Line.{textLine}
-use Rattle.p7_line.proofs.Written.{put-after}
+use Rattle.p0_slices.proofs.Written.{put-after}
 
 module _ (text : List ℕ) (a : allLetters text ≡ true) (h : length text ≤ 32) where
   text-bytes : writing text ≡ writes (encodeAll text)

@@ -12,6 +12,7 @@ ghost use Rattle.p7_line.specs.Line.{refusedLine, textLine};
 ghost use Rattle.p7_line.specs.Method.{methodNamed, methodOf};
 use p0_refusals::Answer;
 use p0_refusals::Refusal;
+use p0_slices as slices;
 use p2_input_method::InputMethod;
 
 // What the first line says.
@@ -20,34 +21,21 @@ pub enum Begun {
     Refused(Refusal),
 }
 
-// Writes bytes at a place, and gives the place after them.
-fn put(bytes: &[u8], out: &mut [u8], at: usize) -> usize
-    requires { ⌜ at + length (now bytes) ≤ length (now out) ⌝ }
-    ensures { λ r. ⌜ (r ≡ at + length (now (bytes .entry))) × (now (out .exit) ≡ take at (now (out .entry)) ++ (now (bytes .entry) ++ drop r (now (out .entry)))) ⌝ }
-{
-    let mut i: usize = 0;
-    while i < bytes.len() {
-        out[at + i] = bytes[i];
-        i += 1;
-    }
-    at + bytes.len()
-}
-
 pub fn put_refused(refusal: Refusal, out: &mut [u8], at: usize) -> usize
     requires { ⌜ at + 11 ≤ length (now out) ⌝ }
     ensures { λ r. ⌜ (r ≡ at + length (refusedLine refusal)) × (now (out .exit) ≡ take at (now (out .entry)) ++ (refusedLine refusal ++ drop r (now (out .entry)))) ⌝ }
 {
     match refusal {
-        Refusal::Foreign => put(b"refused 1\n", out, at),
-        Refusal::Full => put(b"refused 2\n", out, at),
-        Refusal::Short => put(b"refused 3\n", out, at),
-        Refusal::Empty => put(b"refused 4\n", out, at),
-        Refusal::NoUndo => put(b"refused 5\n", out, at),
-        Refusal::Long => put(b"refused 6\n", out, at),
-        Refusal::NoWord => put(b"refused 7\n", out, at),
-        Refusal::Malformed => put(b"refused 8\n", out, at),
-        Refusal::NoMethod => put(b"refused 9\n", out, at),
-        Refusal::Unsound => put(b"refused 10\n", out, at),
+        Refusal::Foreign => slices::put(b"refused 1\n", out, at),
+        Refusal::Full => slices::put(b"refused 2\n", out, at),
+        Refusal::Short => slices::put(b"refused 3\n", out, at),
+        Refusal::Empty => slices::put(b"refused 4\n", out, at),
+        Refusal::NoUndo => slices::put(b"refused 5\n", out, at),
+        Refusal::Long => slices::put(b"refused 6\n", out, at),
+        Refusal::NoWord => slices::put(b"refused 7\n", out, at),
+        Refusal::Malformed => slices::put(b"refused 8\n", out, at),
+        Refusal::NoMethod => slices::put(b"refused 9\n", out, at),
+        Refusal::Unsound => slices::put(b"refused 10\n", out, at),
     }
 }
 
@@ -81,16 +69,6 @@ fn named(name: &[u32]) -> Begun
     Begun::Refused(Refusal::NoMethod)
 }
 
-// The first n letters.
-fn first(s: &[u32], n: usize) -> &[u32]
-    ensures { λ r. ⌜ now r ≡ take n (now (s .entry)) ⌝ }
-{
-    if s.len() < n {
-        return s;
-    }
-    &s[..n]
-}
-
 // The method line.
 pub fn method_line(line: &[u8]) -> Begun
     ensures { λ r. ⌜ r ≡ methodOf (now (line .entry)) ⌝ }
@@ -99,18 +77,8 @@ pub fn method_line(line: &[u8]) -> Begun
     let given = p5_utf8_read::read(line, &mut letters);
     match given {
         Answer::Refused(refusal) => Begun::Refused(refusal),
-        Answer::Done(n) => named(first(&letters, n)),
+        Answer::Done(n) => named(slices::first(&letters, n)),
     }
-}
-
-// The first n bytes.
-fn first_bytes(s: &[u8], n: usize) -> &[u8]
-    ensures { λ r. ⌜ now r ≡ take n (now (s .entry)) ⌝ }
-{
-    if s.len() < n {
-        return s;
-    }
-    &s[..n]
 }
 
 // A composed text in UTF-8.
@@ -122,7 +90,7 @@ fn put_text(text: &[u32], out: &mut [u8], at: usize) -> usize
     let given = p5_utf8_write::write(text, &mut bytes);
     match given {
         Answer::Refused(_) => at,
-        Answer::Done(n) => put(first_bytes(&bytes, n), out, at),
+        Answer::Done(n) => slices::put(slices::first_bytes(&bytes, n), out, at),
     }
 }
 
@@ -133,7 +101,7 @@ fn text_line(text: &[u32], out: &mut [u8], at: usize) -> usize
 {
     let next = put_text(text, out, at);
     if p4_spelling::accepts(text) {
-        return put(b"\tyes\n", out, next);
+        return slices::put(b"\tyes\n", out, next);
     }
-    put(b"\tno\n", out, next)
+    slices::put(b"\tno\n", out, next)
 }
