@@ -1,0 +1,2 @@
+pub mod LetterCalls
+pub mod Counts
