@@ -8,10 +8,10 @@ use mathlib.Core.Logic.{_⊎_, inl, inr, ⊎-elim}
 use native.Mathlib.Omega.{arith}
 use lib.Dec.{T, ltb, leb, eqb}
 use borrow.Author.Tests.{lt-ltb, le-ltb, le-leb, lt-leb, eq-eqb, ne-eqb, ltb-true, ltb-false, leb-true, leb-false, not-true, not-false, eqb-true, eqb-false}
-use Rattle.p0_choice.specs.Choice.{pick, among, each}
+use Rattle.p0_choice.specs.Choice.{pick, among, each, count}
 use Rattle.p0_choice.specs.Text.{word}
 use Rattle.p0_choice.proofs.Choices.{picks, pick-true, pick-false}
-use Rattle.p0_choice.proofs.Tables.{among-below, among-above}
+use Rattle.p0_choice.proofs.Tables.{among-below, among-above, each-count}
 use Rattle.p1_letters.specs.Alphabet.{smallBy32, smallBy1, smallHigh, smallNext, isSmall, isAsciiCapital, isCapital, inAlphabet, asciiLower, asciiUpper, lower, upper}
 
 -- ---- the lists' ranges
@@ -181,3 +181,37 @@ lower-1 x s l e h m =
 -- x + 1 of a capital fits a u32
 pub lower-fits : (x : ℕ) (s : Bool) → s ≡ isCapital x → not s ≡ false → x + 1 < 2 ^ 32
 lower-fits x s e h = omega (arith, capital-room x (sym e ∙ not-false s h))
+
+-- ---- every letter
+past-none : (x : ℕ) → 0x1b0 < x → x < 0x1ea0 → false ≡ inAlphabet x
+past-none x l h =
+    alphabet-capital x false false false (omega arith) h (sym (by32-above x (omega arith))) refl (sym (by1-above x l)) refl
+    (capital-1 x false (omega arith) (next-low (x + 1) false (omega arith) (sym (by1-above (x + 1) (omega arith)))))
+
+-- the letters stand in two runs of code points
+pub alphabet-runs : (x : ℕ) → inAlphabet x ≡ true → (x < 0x1b1) ⊎ ((0x1ea0 ≤ x) × (x < 0x1efa))
+alphabet-runs x e = go (ltb x 0x1b1) (ltb x 0x1ea0) refl refl
+  where
+    go : (a b : Bool) → ltb x 0x1b1 ≡ a → ltb x 0x1ea0 ≡ b → (x < 0x1b1) ⊎ ((0x1ea0 ≤ x) × (x < 0x1efa))
+    go true b p q = inl (ltb-true x 0x1b1 p)
+    go false true p q =
+        let l = ltb-false x 0x1b1 p in
+        let z : false ≡ true = past-none x (omega arith) (ltb-true x 0x1ea0 q) ∙ e in
+        let y : _≡_ {A = ℕ} 0 1 = cc in absurd (omega arith)
+    go false false p q =
+        let l = ltb-false x 0x1ea0 q in
+        let h = leb-true x 0x1ef9 (alphabet-high x (omega arith) l ∙ e) in
+        inr (l, omega arith)
+
+-- a test that passes at each letter of the two runs, by computation, passes at each letter of the alphabet
+abbrev pub onLetters : (ℕ → Bool) → ℕ → Bool
+onLetters p x = pick (inAlphabet x) (p x) true
+
+pub every-letter : (p : ℕ → Bool) → T (each (onLetters p) (count 0x1b1 0)) → T (each (onLetters p) (count 90 0x1ea0)) → (x : ℕ) → inAlphabet x ≡ true
+    → p x ≡ true
+every-letter p s t x e =
+    ⊎-elim (λ (h : x < 0x1b1). at (each-count (onLetters p) 0x1b1 0 s x (omega arith) (omega arith)))
+    (λ (h : (0x1ea0 ≤ x) × (x < 0x1efa)). at (each-count (onLetters p) 90 0x1ea0 t x (h .0) (omega (arith, h .1)))) (alphabet-runs x e)
+  where
+    at : onLetters p x ≡ true → p x ≡ true
+    at q = rw e at q

@@ -46,10 +46,10 @@ fn is_small_next(x: u32) -> bool
 pub fn is_capital(x: u32) -> bool
     ensures { λ r. ⌜ r ≡ isCapital x ⌝ }
 {
-    if x < 65 {
+    if x < 0x41 {
         return false;
     }
-    if x <= 90 {
+    if x <= 0x5a {
         return true;
     }
     if x < 0xe0 {

@@ -1,0 +1,74 @@
+-- A toned letter is canonically equal to its vowel with the tone's mark, it is the only letter of the alphabet that is,
+-- and tone off undoes tone on.
+use Prim.Native.Nat.{ℕ}
+use mathlib.Core.Path.{_≡_, refl, sym, ap, _∙_}
+use mathlib.Core.Bool.{Bool, true, false}
+use mathlib.Core.List.{List, [], _∷_}
+use native.Mathlib.Omega.{arith}
+use lib.Dec.{T, eqb}
+use borrow.Author.Tests.{eqb-true}
+use Rattle.p0_choice.specs.Choice.{pick, among, each}
+use Rattle.p0_choice.specs.Text.{word}
+use Rattle.p0_choice.proofs.Tables.{each-among}
+use Rattle.p1_letters.specs.Alphabet.{smallBy32, smallBy1, smallHigh, smallNext, isSmall, isAsciiCapital, isCapital, inAlphabet, asciiLower}
+use Rattle.p1_letters.specs.Tones.{toneRows, toneColumn, rowOf, toneFrom, toneOn, offIn, toneOff}
+use Rattle.p1_letters.specs.Vowels.{vowels, isVowel}
+use Rattle.p1_letters.proofs.Vowels.{every-vowel}
+use Rattle.p1_unicode.specs.Ucd.{decompositions, classes}
+use Rattle.p1_unicode.specs.Canonical.{stepIn, stepOf, apart, classIn, classOf, reorderable, exchanged, run, ordered, canonical, CanonicallyEqual, toneMark}
+use Rattle.p1_unicode.proofs.Canonical.{letters-differ}
+
+-- the ten tone keys
+unfoldable pub keys : List ℕ
+keys = word "sfrxj12345"
+
+-- a test of a vowel and a tone key
+onKeys : (ℕ → ℕ → Bool) → ℕ → Bool
+unfolding keys word
+onKeys p x = each (p x) keys
+
+-- one that passes at each vowel and key, by computation, passes at each
+each-tone : (p : ℕ → ℕ → Bool) → ((x : ℕ) → isVowel x ≡ true → onKeys p x ≡ true) → (x t : ℕ) → isVowel x ≡ true → among t keys ≡ true → p x t ≡ true
+unfolding onKeys keys word
+each-tone p f x t e k = each-among (p x) keys (rw (f x e) tt) t k
+
+-- two lists of the same code points
+sameList : List ℕ → List ℕ → Bool
+sameList [] [] = true
+sameList [] (y ∷ ys) = false
+sameList (x ∷ xs) [] = false
+sameList (x ∷ xs) (y ∷ ys) = pick (eqb x y) (sameList xs ys) false
+
+same-list : (xs ys : List ℕ) → sameList xs ys ≡ true → xs ≡ ys
+unfolding sameList
+same-list [] [] e = refl
+same-list [] (y ∷ ys) e = let z : _≡_ {A = ℕ} 0 1 = cc in absurd (omega arith)
+same-list (x ∷ xs) [] e = let z : _≡_ {A = ℕ} 0 1 = cc in absurd (omega arith)
+same-list (x ∷ xs) (y ∷ ys) e = go (eqb x y) refl e (same-list xs ys)
+  where
+    go : (b : Bool) → eqb x y ≡ b → pick b (sameList xs ys) false ≡ true → (sameList xs ys ≡ true → xs ≡ ys) → x ∷ xs ≡ y ∷ ys
+    go true q h f = rw (eqb-true x y q, f h) refl
+    go false q h f = let z : _≡_ {A = ℕ} 0 1 = cc in absurd (omega arith)
+
+module _ (x t : ℕ) (v : isVowel x ≡ true) (k : among t keys ≡ true) where
+  pub toned-letter : inAlphabet (toneOn x t) ≡ true
+  unfolding onKeys keys word smallBy32 smallBy1 smallHigh smallNext isSmall isAsciiCapital isCapital inAlphabet asciiLower toneRows toneColumn rowOf toneFrom toneOn vowels isVowel
+  toned-letter =
+      each-tone (λ (y u : ℕ). inAlphabet (toneOn y u)) (every-vowel (onKeys (λ (y u : ℕ). inAlphabet (toneOn y u))) tt) x t v k
+
+  -- "A toned letter is canonically equal (Unicode) to its vowel with" the tone's mark
+  pub toned-unicode : CanonicallyEqual (toneOn x t ∷ []) (asciiLower x ∷ toneMark t ∷ [])
+  unfolding onKeys keys word isAsciiCapital asciiLower toneRows toneColumn rowOf toneFrom toneOn vowels isVowel stepIn stepOf apart decompositions classIn classOf classes reorderable exchanged run ordered canonical toneMark sameList
+  toned-unicode =
+      same-list _ _
+      (each-tone (λ (y u : ℕ). sameList (canonical (toneOn y u ∷ [])) (canonical (asciiLower y ∷ toneMark u ∷ [])))
+      (every-vowel (onKeys (λ (y u : ℕ). sameList (canonical (toneOn y u ∷ [])) (canonical (asciiLower y ∷ toneMark u ∷ [])))) tt) x t v k)
+
+  pub off-undoes : toneOff (toneOn x t) ≡ asciiLower x
+  unfolding onKeys keys word isAsciiCapital asciiLower toneRows toneColumn rowOf toneFrom toneOn vowels isVowel offIn toneOff
+  off-undoes =
+      eqb-true _ _ (each-tone (λ (y u : ℕ). eqb (toneOff (toneOn y u)) (asciiLower y)) (every-vowel (onKeys (λ (y u : ℕ). eqb (toneOff (toneOn y u)) (asciiLower y))) tt) x t v k)
+
+  -- it is the only letter of the alphabet that is
+  pub toned-only : (y : ℕ) → inAlphabet y ≡ true → CanonicallyEqual (y ∷ []) (asciiLower x ∷ toneMark t ∷ []) → y ≡ toneOn x t
+  toned-only y e h = letters-differ y (toneOn x t) e toned-letter (h ∙ sym toned-unicode)

@@ -1,0 +1,3 @@
+pub mod Ucd
+pub mod Case
+pub mod Canonical

@@ -1,0 +1,88 @@
+//! The calls of the C host, as the archive has them, and what each leaves behind: tests/header holds the declarations
+//! to the exported functions.
+
+use std::fmt::{Debug, Formatter, UpperHex};
+
+pub mod host {
+    extern "C" {
+        pub fn pasdrongel_check_letter(letter: u32) -> u32;
+        pub fn pasdrongel_lower(letter: u32, lower: *mut u32) -> u32;
+        pub fn pasdrongel_upper(letter: u32, upper: *mut u32) -> u32;
+        pub fn pasdrongel_is_capital(letter: u32, yes: *mut u32) -> u32;
+        pub fn pasdrongel_is_white_space(letter: u32, yes: *mut u32) -> u32;
+        pub fn pasdrongel_tone_on(letter: u32, tone: u32, toned: *mut u32) -> u32;
+        pub fn pasdrongel_tone_off(letter: u32, plain: *mut u32) -> u32;
+        pub fn pasdrongel_is_composer_vowel(letter: u32, yes: *mut u32) -> u32;
+        pub fn pasdrongel_is_speller_vowel(letter: u32, yes: *mut u32) -> u32;
+        pub fn pasdrongel_read_utf8(
+            bytes: *const u8, length: usize, letters: *mut u32, room: usize, count: *mut usize) -> u32;
+        pub fn pasdrongel_write_utf8(
+            letters: *const u32, length: usize, bytes: *mut u8, room: usize, count: *mut usize) -> u32;
+    }
+}
+
+/// What stands in a lent place before the call: no answer has it.
+pub const GUARD: u32 = 0xa5a5a5a5;
+pub const GUARD_BYTE: u8 = 0xa5;
+pub const GUARD_COUNT: usize = 0xa5a5a5a5;
+
+/// Guarded places on each side of a lent output.
+const MARGIN: usize = 4;
+
+/// The number that a call returns, and all that it leaves in what was lent.
+#[derive(PartialEq)]
+pub struct Left<T> {
+    refusal: u32,
+    count: usize,
+    output: Vec<T>,
+    guard: T,
+}
+
+impl<T: Copy> Left<T> {
+    /// What a call must leave: the answer at the start of the output, all else as it was.
+    pub fn by(answer: Result<Vec<T>, u32>, room: usize, guard: T) -> Left<T> {
+        let mut output = vec![guard; room + 2 * MARGIN];
+        match answer {
+            Err(refusal) => Left { refusal, count: GUARD_COUNT, output, guard },
+            Ok(answer) => {
+                output[MARGIN..MARGIN + answer.len()].copy_from_slice(&answer);
+                Left { refusal: 0, count: answer.len(), output, guard }
+            }
+        }
+    }
+
+    fn of(room: usize, guard: T, call: impl FnOnce(*mut T, *mut usize) -> u32) -> Left<T> {
+        let (mut output, mut count) = (vec![guard; room + 2 * MARGIN], GUARD_COUNT);
+        let refusal = call(output[MARGIN..].as_mut_ptr(), &mut count);
+        Left { refusal, count, output, guard }
+    }
+}
+
+/// In hexadecimal; `-` is a place that keeps its value, and bars stand around what was lent.
+impl<T: PartialEq + UpperHex> Debug for Left<T> {
+    fn fmt(&self, f: &mut Formatter) -> std::fmt::Result {
+        match self.count {
+            GUARD_COUNT => write!(f, "returns {}, count -, output", self.refusal)?,
+            count => write!(f, "returns {}, count {count}, output", self.refusal)?,
+        }
+        for (place, item) in self.output.iter().enumerate() {
+            if place == MARGIN || place == self.output.len() - MARGIN {
+                write!(f, " |")?;
+            }
+            if *item == self.guard { write!(f, " -")? } else { write!(f, " {item:02X}")? }
+        }
+        Ok(())
+    }
+}
+
+pub fn read_utf8(bytes: &[u8], room: usize) -> Left<u32> {
+    Left::of(room, GUARD, |output, count| unsafe {
+        host::pasdrongel_read_utf8(bytes.as_ptr(), bytes.len(), output, room, count)
+    })
+}
+
+pub fn write_utf8(letters: &[u32], room: usize) -> Left<u8> {
+    Left::of(room, GUARD_BYTE, |output, count| unsafe {
+        host::pasdrongel_write_utf8(letters.as_ptr(), letters.len(), output, room, count)
+    })
+}

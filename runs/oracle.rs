@@ -1,0 +1,116 @@
+//! The other side: what the Rust, Rust's own library and document 01's limits answer, on our numbers.
+//! A refusal is `Err` of its number.
+
+use crate::{bamboo, spelling};
+use std::sync::OnceLock;
+
+pub const FOREIGN: u32 = 1;
+pub const SHORT: u32 = 3;
+pub const LONG: u32 = 6;
+pub const MALFORMED: u32 = 8;
+
+pub const WORD_LETTERS: usize = 64;
+pub const LINE_BYTES: usize = 256;
+
+/// The ten tone keys.
+pub const TONE_KEYS: &str = "sfrxj12345";
+
+/// Document 01's 67 small letters; Rust's library knows their capitals.
+const SMALL: &str = "àáâãèéêìíòóôõùúý\
+    ăđĩũơư\
+    ạảấầẩẫậắằẳẵặẹẻẽếềểễệỉịọỏốồổỗộớờởỡợụủứừửữựỳỵỷỹ";
+
+/// The 262 letters, in the order of their code points.
+pub fn alphabet() -> &'static [u32] {
+    static LETTERS: OnceLock<Vec<u32>> = OnceLock::new();
+    LETTERS.get_or_init(|| {
+        let capitals = SMALL.chars().flat_map(char::to_uppercase);
+        let mut letters: Vec<u32> = (0..0x80).chain(SMALL.chars().chain(capitals).map(u32::from)).collect();
+        letters.sort();
+        letters.dedup();
+        assert_eq!(letters.len(), 262);
+        letters
+    })
+}
+
+pub fn in_alphabet(code: u32) -> bool {
+    static TABLE: OnceLock<Vec<bool>> = OnceLock::new();
+    let table = TABLE.get_or_init(|| {
+        let mut table = vec![false; 0x2000];
+        alphabet().iter().for_each(|&letter| table[letter as usize] = true);
+        table
+    });
+    table.get(code as usize).copied().unwrap_or(false)
+}
+
+/// A letter as Rust's `char`.
+pub fn letter(code: u32) -> Result<char, u32> {
+    if in_alphabet(code) { Ok(char::from_u32(code).expect("a letter is a char")) } else { Err(FOREIGN) }
+}
+
+fn single(mut mapped: impl Iterator<Item = char>) -> u32 {
+    let only = mapped.next().expect("a case mapping is not empty");
+    assert!(mapped.next().is_none(), "the alphabet's case mappings are single letters");
+    u32::from(only)
+}
+
+pub fn lower(letter: char) -> u32 {
+    single(letter.to_lowercase())
+}
+
+pub fn upper(letter: char) -> u32 {
+    single(letter.to_uppercase())
+}
+
+pub fn is_capital(letter: char) -> u32 {
+    u32::from(letter.is_uppercase())
+}
+
+pub fn is_white_space(letter: char) -> u32 {
+    u32::from(letter.is_whitespace())
+}
+
+pub fn tone_off(letter: char) -> u32 {
+    u32::from(spelling::spy::strip_tone(letter))
+}
+
+pub fn is_composer_vowel(letter: char) -> u32 {
+    u32::from(bamboo::spy::is_vowel(letter))
+}
+
+pub fn is_speller_vowel(letter: char) -> u32 {
+    u32::from(spelling::spy::is_vowel(letter))
+}
+
+pub fn tone_on(code: u32, tone: u32) -> Result<u32, u32> {
+    Ok(u32::from(bamboo::spy::apply_tone_to_char(letter(code)?, letter(tone)?)))
+}
+
+/// The letters of `bytes`. Rust's library finds the first malformed place; a foreign letter before it decides first.
+pub fn read_utf8(bytes: &[u8], room: usize) -> Result<Vec<u32>, u32> {
+    if bytes.len() > LINE_BYTES {
+        return Err(LONG);
+    }
+    let (sound, malformed) = match std::str::from_utf8(bytes) {
+        Ok(text) => (text, false),
+        Err(fault) => (std::str::from_utf8(&bytes[..fault.valid_up_to()]).expect("valid so far"), true),
+    };
+    let letters: Vec<u32> = sound.chars().map(u32::from).collect();
+    if !letters.iter().all(|&code| in_alphabet(code)) {
+        Err(FOREIGN)
+    } else if malformed {
+        Err(MALFORMED)
+    } else if letters.len() > room {
+        Err(SHORT)
+    } else {
+        Ok(letters)
+    }
+}
+
+pub fn write_utf8(letters: &[u32], room: usize) -> Result<Vec<u8>, u32> {
+    if letters.len() > WORD_LETTERS {
+        return Err(LONG);
+    }
+    let text: String = letters.iter().map(|&code| letter(code)).collect::<Result<_, _>>()?;
+    if text.len() > room { Err(SHORT) } else { Ok(text.into_bytes()) }
+}

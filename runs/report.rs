@@ -1,0 +1,124 @@
+//! What a run counts and says: each kind of call as it is compared, the smallest input that differs, and the total.
+
+use std::fmt::Debug;
+use std::process::ExitCode;
+use std::time::Instant;
+
+/// A kind of call under comparison.
+struct Kind {
+    name: String,
+    calls: u64,
+    differ: u64,
+    smallest: Option<(Vec<u32>, String)>,
+    begun: Instant,
+}
+
+pub struct Run {
+    seed: u64,
+    scale: u64,
+    subject: &'static str,
+    random: Random,
+    kind: Option<Kind>,
+    calls: u64,
+    differ: u64,
+}
+
+impl Run {
+    /// SEED (default 1) chooses the random inputs; SCALE (default 1) multiplies their number.
+    pub fn from_environment() -> Run {
+        let (seed, scale) = (number("SEED", 1), number("SCALE", 1));
+        eprintln!("SEED={seed} SCALE={scale}");
+        Run { seed, scale, subject: "", random: Random(0), kind: None, calls: 0, differ: 0 }
+    }
+
+    /// A subject's random inputs depend on the seed and its name alone, and not on the subjects before it.
+    pub fn subject(&mut self, name: &'static str) {
+        self.end();
+        self.subject = name;
+        self.random = Random(name.bytes().fold(self.seed, |sum, byte| sum.wrapping_mul(257) + u64::from(byte)));
+    }
+
+    pub fn begin(&mut self, name: &str) {
+        self.end();
+        let kind = Kind { name: name.to_string(), calls: 0, differ: 0, smallest: None, begun: Instant::now() };
+        self.kind = Some(kind);
+    }
+
+    /// One call compared. `size` orders inputs, so that the smallest one that differs is kept: shorter, then lower.
+    pub fn compare<T: PartialEq + Debug>(
+        &mut self,
+        ours: T,
+        theirs: T,
+        size: impl FnOnce() -> Vec<u32>,
+        input: impl FnOnce() -> String,
+    ) {
+        let kind = self.kind.as_mut().expect("a kind is begun before a call is compared");
+        kind.calls += 1;
+        if ours == theirs {
+            return;
+        }
+        kind.differ += 1;
+        let size = size();
+        let smaller = |(other, _): &(Vec<u32>, String)| (size.len(), &size) < (other.len(), other);
+        if kind.smallest.as_ref().is_none_or(smaller) {
+            kind.smallest = Some((size, format!("{}\n    call:   {ours:?}\n    oracle: {theirs:?}", input())));
+        }
+    }
+
+    fn end(&mut self) {
+        let Some(kind) = self.kind.take() else { return };
+        let seconds = kind.begun.elapsed().as_secs_f64();
+        eprintln!("{}: {}: {} calls, {} differ ({seconds:.1} s)", self.subject, kind.name, kind.calls, kind.differ);
+        if let Some((_, text)) = kind.smallest {
+            eprintln!("  smallest: {text}");
+        }
+        self.calls += kind.calls;
+        self.differ += kind.differ;
+    }
+
+    pub fn conclude(mut self) -> ExitCode {
+        self.end();
+        println!("{} calls compared, {} differ", self.calls, self.differ);
+        if self.differ == 0 && self.calls > 0 { ExitCode::SUCCESS } else { ExitCode::FAILURE }
+    }
+
+    /// So many random inputs, times SCALE.
+    pub fn times(&self, count: u64) -> std::ops::Range<u64> {
+        0..count * self.scale
+    }
+
+    pub fn random(&mut self) -> &mut Random {
+        &mut self.random
+    }
+}
+
+fn number(name: &str, default: u64) -> u64 {
+    match std::env::var(name) {
+        Err(_) => default,
+        Ok(text) => text.parse().unwrap_or_else(|_| {
+            eprintln!("{name} is no number: {text}");
+            std::process::exit(2)
+        }),
+    }
+}
+
+/// The generator splitmix64.
+pub struct Random(pub u64);
+
+impl Random {
+    pub fn next(&mut self) -> u64 {
+        self.0 = self.0.wrapping_add(0x9e3779b97f4a7c15);
+        let mixed = (self.0 ^ (self.0 >> 30)).wrapping_mul(0xbf58476d1ce4e5b9);
+        let mixed = (mixed ^ (mixed >> 27)).wrapping_mul(0x94d049bb133111eb);
+        mixed ^ (mixed >> 31)
+    }
+
+    /// A number below `limit`, which is not 0.
+    pub fn below(&mut self, limit: usize) -> usize {
+        (self.next() % limit as u64) as usize
+    }
+
+    pub fn of<T: Copy>(&mut self, choices: &[T]) -> T {
+        choices[self.below(choices.len())]
+    }
+}
