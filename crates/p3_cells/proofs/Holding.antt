@@ -12,7 +12,7 @@ use Rattle.p3_cells.specs.Cells.{limit, blank, blanks, isCell, isSound, 
 use Rattle.p3_cells.specs.declared.Cell.{Cell}
 use Rattle.p3_cells.specs.declared.Composition.{Composition}
 use Rattle.p3_cells.proofs.Tests.{each-at, at-each}
-use Rattle.p3_cells.proofs.Sound.{sound-is, is-sound, cell-is, is-cell}
+use Rattle.p3_cells.proofs.Soundness.{sound-is, is-sound, cell-is, is-cell}
 
 -- ---- blank cells
 pub length-blanks : (n : ℕ) → length (blanks n) ≡ n

@@ -1,4 +1,6 @@
 pub mod Tests
-pub mod Sound
+pub mod Soundness
 pub mod Holding
 pub mod Made
+pub mod SoundTest
+pub mod Text

@@ -15,7 +15,7 @@ use Rattle.p2_input_method.proofs.Rules.{tone-key-passes, mark-passes}
 use Rattle.p3_cells.specs.Cells.{marks, tones, isCell}
 use Rattle.p3_cells.specs.Text.{letterOf}
 use Rattle.p3_cells.specs.declared.Cell.{Cell}
-use Rattle.p3_cells.proofs.Sound.{cell-is, is-cell}
+use Rattle.p3_cells.proofs.Soundness.{cell-is, is-cell}
 
 -- on a cell in use, "mark, else base" is the base
 pub letter-base : (x : Cell) → isCell x ≡ true → letterOf x ≡ x .base
@@ -30,7 +30,7 @@ letter-base x e =
     go false h = h
 
 -- ---- the marks and tones that the rules make
-mark-letter : (l : ℕ) → among l marks ≡ true → inAlphabet l ≡ true
+pub mark-letter : (l : ℕ) → among l marks ≡ true → inAlphabet l ≡ true
 unfolding inAlphabet isSmall smallBy32 smallBy1 smallNext smallHigh marks word
 mark-letter l e = each-among inAlphabet marks tt l e
 

@@ -1,4 +1,4 @@
 pub mod Cells
-pub mod Sound
+pub mod Soundness
 pub mod Text
 pub mod Written

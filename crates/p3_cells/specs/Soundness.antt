@@ -1,5 +1,5 @@
 -- Document 01, "The alphabet and the numbers": "Sound", in its own words, as propositions. `isSound` is the test for it;
--- proofs/Sound.antt shows that the two are the same.
+-- proofs/Soundness.antt shows that the two are the same.
 use Prim.Native.Nat.{ℕ, _<_, _≤_}
 use mathlib.Core.Path.{_≡_}
 use mathlib.Core.Bool.{true}

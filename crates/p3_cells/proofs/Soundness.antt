@@ -12,7 +12,7 @@ use Rattle.p0_choice.specs.Choice.{pick, among, each, count as from}
 use Rattle.p0_choice.proofs.Tables.{each-count}
 use Rattle.p1_letters.specs.Alphabet.{inAlphabet}
 use Rattle.p3_cells.specs.Cells.{limit, blank, isBlank, marks, tones, markFits, toneFits, isCell, fitsAt, isSound}
-use Rattle.p3_cells.specs.Sound.{SoundCell, Sound}
+use Rattle.p3_cells.specs.Soundness.{SoundCell, Sound}
 use Rattle.p3_cells.specs.declared.Cell.{Cell}
 use Rattle.p3_cells.specs.declared.Composition.{Composition}
 use Rattle.p3_cells.proofs.Tests.{both-are, either-is, is-either, holds, each-from}
@@ -69,11 +69,11 @@ is-cell x s =
     rw (s .base, m, t) refl
 
 -- ---- the composition
-fits-used : (cells : List Cell) (n i : ℕ) → i < n → fitsAt cells n i ≡ isCell (getD cells i blank)
+pub fits-used : (cells : List Cell) (n i : ℕ) → i < n → fitsAt cells n i ≡ isCell (getD cells i blank)
 unfolding fitsAt
 fits-used cells n i l = rw (lt-ltb i n l) refl
 
-fits-past : (cells : List Cell) (n i : ℕ) → n ≤ i → fitsAt cells n i ≡ isBlank (getD cells i blank)
+pub fits-past : (cells : List Cell) (n i : ℕ) → n ≤ i → fitsAt cells n i ≡ isBlank (getD cells i blank)
 unfolding fitsAt
 fits-past cells n i l = rw (le-ltb i n l) refl
 
