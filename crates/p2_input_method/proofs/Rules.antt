@@ -4,14 +4,16 @@ use mathlib.Core.Path.{_≡_, refl, sym, _∙_}
 use mathlib.Core.Bool.{Bool, true, false}
 use mathlib.Core.List.{List, [], _∷_}
 use native.Mathlib.Omega.{arith}
-use lib.Dec.{T, eqb, leb}
-use borrow.Author.Tests.{eqb-true, eqb-false, leb-true, leb-false}
-use Rattle.p0_choice.specs.Choice.{pick, among, each}
+use lib.Dec.{T, eqb, ltb, leb}
+use lib.ListN.{getD, List·getD-eq-default}
+use borrow.Author.Tests.{eqb-true, eqb-false, leb-true, leb-false, ltb-true, ltb-false}
+use Rattle.p0_choice.specs.Choice.{pick, among, each, count}
 use Rattle.p0_choice.specs.Text.{word}
 use Rattle.p0_choice.proofs.Tables.{pick-first, pick-second, each-among, each-count, among-below, among-above}
 use Rattle.p0_choice.proofs.Arms.{Missed, missed, amongAny}
-use Rattle.p2_input_method.specs.Rules.{MarkRule, markRules, markIn, markFor, toneKeys, isToneKey}
+use Rattle.p2_input_method.specs.Rules.{markRules, noRule, markIn, markFor, toneKeys, isToneKey}
 use Rattle.p2_input_method.specs.declared.InputMethod.{InputMethod}
+use Rattle.p2_input_method.specs.declared.MarkRule.{MarkRule}
 use Rattle.p2_input_method.specs.declared.InputMethod.the-variants.{Telex, Vni}
 
 -- ---- a method's arm
@@ -87,6 +89,16 @@ rule-by m n b k r e q = rw e q
 
 pub rule-fits : (m : InputMethod) (b i k j r : ℕ) → b ≡ i → k ≡ j → r ≡ markFor m i j → r ≡ markFor m b k
 rule-fits m b i k j r p q h = rw (p, q) h
+
+-- ---- Telex's rules by their number
+pub rule-past : (N : Type 0) (kss : List (List ℕ)) (i : ℕ) → Missed N kss i → T (each (λ (j : ℕ). amongAny j kss) (count 7 0))
+    → noRule ≡ getD (markRules Telex) i noRule
+unfolding markRules
+rule-past N kss i m t = sym (List·getD-eq-default (markRules Telex) noRule {n = i} (go (ltb i 7) refl))
+  where
+    go : (b : Bool) → ltb i 7 ≡ b → 7 ≤ i
+    go true e = absurd (unlike kss i i (missed N kss i m) (each-count (λ (j : ℕ). amongAny j kss) 7 0 t i (omega arith) (ltb-true i 7 e)) refl)
+    go false e = ltb-false i 7 e
 
 -- ---- what every tone key passes
 pub tone-key-passes : (p : ℕ → Bool) → T (each p (toneKeys Telex)) → T (each p (toneKeys Vni)) → (m : InputMethod) (k : ℕ) → isToneKey m k ≡ true → p k ≡ true

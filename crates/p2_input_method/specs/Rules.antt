@@ -9,6 +9,7 @@ use Rattle.p0_choice.specs.Choice.{pick, among}
 use Rattle.p0_choice.specs.Text.{word}
 use Rattle.p2_input_method.specs.declared.InputMethod.{InputMethod}
 use Rattle.p2_input_method.specs.declared.InputMethod.the-variants.{Telex, Vni}
+use Rattle.p2_input_method.specs.declared.MarkRule.{MarkRule}
 use Rattle.p2_input_method.specs.declared.UndoBehavior.{UndoBehavior}
 use Rattle.p2_input_method.specs.declared.UndoBehavior.the-variants.{AppendTrigger, ConsumeTrigger}
 
@@ -20,13 +21,7 @@ toneKeys Vni = word "12345"
 unfoldable pub isToneKey : InputMethod → ℕ → Bool
 isToneKey m k = among k (toneKeys m)
 
--- a rule's pattern, its first letter and its key, and the letter that it makes
-pub record MarkRule : Type 0 where
-  pub first : ℕ
-  pub key : ℕ
-  pub result : ℕ
-  pub undo : UndoBehavior
-
+-- a rule's pattern, its first letter and its key; the letter that it makes; what its undo does with the trigger
 unfoldable pub markRule : String → String → UndoBehavior → MarkRule
 markRule pattern result undo =
     record { first = getD (word pattern) 0 0; key = getD (word pattern) 1 0; result = getD (word result) 0 0; undo = undo }
@@ -52,6 +47,10 @@ markRules Vni =
     markRule "a8" "ă" AppendTrigger ∷
     markRule "d9" "đ" AppendTrigger ∷
     []
+
+-- what stands past the last rule
+abbrev pub noRule : MarkRule
+noRule = record { first = 0; key = 0; result = 0; undo = AppendTrigger }
 
 -- the result of the first rule whose pattern is the base b with the key k; 0 where there is none
 unfoldable pub markIn : List MarkRule → ℕ → ℕ → ℕ

@@ -1,6 +1,7 @@
 // The two input methods (input_method.rs): tone keys, mark rules in order, and what an undo does with its trigger.
 ghost use mathlib.Core.Path.{_≡_};
-ghost use Rattle.p2_input_method.specs.Rules.{isToneKey, markFor, isHornKey};
+ghost use lib.ListN.{getD};
+ghost use Rattle.p2_input_method.specs.Rules.{isToneKey, markRules, noRule, markFor, isHornKey};
 ghost use Rattle.p2_input_method.specs.declared.InputMethod.the-variants.{Telex, Vni};
 
 pub enum InputMethod {
@@ -13,6 +14,16 @@ pub enum UndoBehavior {
     AppendTrigger,
     ConsumeTrigger,
 }
+
+// A mark rule: its pattern of two letters, the letter that it makes, and what its undo does.
+pub struct MarkRule {
+    pub first: u32,
+    pub key: u32,
+    pub result: u16,
+    pub undo: UndoBehavior,
+}
+
+pub const TELEX_RULES: usize = 7;
 
 // f s r x j. r and s are neighbours: in one arm they would be taken for a range.
 fn is_telex_tone_key(k: u32) -> bool
@@ -118,5 +129,61 @@ pub fn is_horn_key(m: InputMethod, k: u32) -> bool
     match m {
         InputMethod::Telex => k == 119,
         InputMethod::Vni => k == 55,
+    }
+}
+
+// Telex's rules in order, aw aa ee oo ow uw dd; past them one with no letters.
+pub fn telex_rule(i: usize) -> MarkRule
+    ensures { λ r. ⌜ r ≡ getD (markRules Telex) i noRule ⌝ }
+{
+    match i {
+        0 => MarkRule {
+            first: 97,
+            key: 119,
+            result: 0x103,
+            undo: UndoBehavior::AppendTrigger,
+        },
+        1 => MarkRule {
+            first: 97,
+            key: 97,
+            result: 0xe2,
+            undo: UndoBehavior::AppendTrigger,
+        },
+        2 => MarkRule {
+            first: 101,
+            key: 101,
+            result: 0xea,
+            undo: UndoBehavior::AppendTrigger,
+        },
+        3 => MarkRule {
+            first: 111,
+            key: 111,
+            result: 0xf4,
+            undo: UndoBehavior::AppendTrigger,
+        },
+        4 => MarkRule {
+            first: 111,
+            key: 119,
+            result: 0x1a1,
+            undo: UndoBehavior::AppendTrigger,
+        },
+        5 => MarkRule {
+            first: 117,
+            key: 119,
+            result: 0x1b0,
+            undo: UndoBehavior::AppendTrigger,
+        },
+        6 => MarkRule {
+            first: 100,
+            key: 100,
+            result: 0x111,
+            undo: UndoBehavior::ConsumeTrigger,
+        },
+        _ => MarkRule {
+            first: 0,
+            key: 0,
+            result: 0,
+            undo: UndoBehavior::AppendTrigger,
+        },
     }
 }

@@ -8,11 +8,11 @@ use borrow.Author.Tests.{ne-eqb, eq-eqb, ltb-true}
 use Rattle.p0_choice.specs.Choice.{pick, among}
 use Rattle.p0_choice.specs.Text.{word}
 use Rattle.p0_choice.proofs.Tables.{each-among}
-use Rattle.p1_letters.specs.Alphabet.{inAlphabet, isSmall, smallBy32, smallBy1, smallNext, smallHigh}
+use Rattle.p1_letters.specs.Alphabet.{inAlphabet, isCapital, isSmall, smallBy32, smallBy1, smallNext, smallHigh}
 use Rattle.p2_input_method.specs.Rules.{toneKeys, isToneKey, markRule, markRules, markFor}
 use Rattle.p2_input_method.specs.declared.InputMethod.{InputMethod}
 use Rattle.p2_input_method.proofs.Rules.{tone-key-passes, mark-passes}
-use Rattle.p3_cells.specs.Cells.{marks, tones, isCell}
+use Rattle.p3_cells.specs.Cells.{marks, tones, isCell, typed}
 use Rattle.p3_cells.specs.Text.{letterOf}
 use Rattle.p3_cells.specs.declared.Cell.{Cell}
 use Rattle.p3_cells.proofs.Soundness.{cell-is, is-cell}
@@ -52,8 +52,13 @@ mark-for-mark m b k h = go (mark-passes (λ (x : ℕ). pick (eqb x 0) true (amon
 
 -- ---- the cells that are made
 -- a letter as typed
-pub typed-cell : (l : ℕ) (u : Bool) → inAlphabet l ≡ true → isCell (record { base = l; mark = 0; tone = 0; upper = u }) ≡ true
-typed-cell l u e = is-cell _ (record { base = e; mark = inl refl; tone = inl refl })
+pub typed-by : (l : ℕ) (u : Bool) → u ≡ isCapital l → record { base = l; mark = 0; tone = 0; upper = u } ≡ typed l
+unfolding typed
+typed-by l u e = rw e refl
+
+pub typed-cell : (l : ℕ) → inAlphabet l ≡ true → isCell (typed l) ≡ true
+unfolding typed
+typed-cell l e = is-cell (typed l) (record { base = e; mark = inl refl; tone = inl refl })
 
 -- a tone put on
 pub toned-cell : (x : Cell) (t : ℕ) → isCell x ≡ true → among t tones ≡ true

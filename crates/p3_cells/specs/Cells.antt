@@ -6,7 +6,7 @@ use lib.Dec.{eqb, ltb, leb}
 use lib.ListN.{length, getD, take}
 use Rattle.p0_choice.specs.Choice.{pick, among, each, count as from}
 use Rattle.p0_choice.specs.Text.{word}
-use Rattle.p1_letters.specs.Alphabet.{inAlphabet}
+use Rattle.p1_letters.specs.Alphabet.{inAlphabet, isCapital}
 use Rattle.p3_cells.specs.declared.Cell.{Cell}
 use Rattle.p3_cells.specs.declared.Composition.{Composition}
 
@@ -46,6 +46,10 @@ fitsAt cells n i = pick (ltb i n) (isCell (getD cells i blank)) (isBlank (getD c
 -- "Sound: count at most 32" and every cell fits
 unfoldable pub isSound : Composition → Bool
 isSound c = pick (leb (c .count) limit) (each (fitsAt (c .cells) (c .count)) (from limit 0)) false
+
+-- *Append* "the letter as typed, flag on if capital": the cell of a letter
+unfoldable pub typed : ℕ → Cell
+typed ch = record { base = ch; mark = 0; tone = 0; upper = isCapital ch }
 
 -- ---- the cells in use, and a composition that holds others instead
 unfoldable pub used : Composition → List Cell

@@ -11,3 +11,8 @@ refusalOf (Refused r) = numberOf r
 abbrev pub countOf : Written → ℕ
 countOf (Wrote n) = n
 countOf (Refused r) = 0
+
+-- "A refusal returns its number; the composition and lent outputs stay as they were."
+abbrev pub unless : {A : Type 0} → Written → A → A → A
+unless (Wrote n) old new = new
+unless (Refused r) old new = old

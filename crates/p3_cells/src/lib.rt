@@ -6,7 +6,7 @@ ghost use Prim.Native.Nat.{_<_, _≤_, _^_};
 ghost use lib.Dec.{eqb};
 ghost use lib.ListN.{length, drop};
 ghost use Rattle.p0_choice.specs.Choice.{among};
-ghost use Rattle.p3_cells.specs.Cells.{limit, isBlank, marks, toneFits, isCell, isSound, used};
+ghost use Rattle.p3_cells.specs.Cells.{limit, blank as blankCell, isBlank, marks, toneFits, isCell, typed as typedCell, isSound, used};
 ghost use Rattle.p3_cells.specs.Text.{letterOf, tonedLetter, shown as shownOf, textOf};
 use p0_refusals::Refusal;
 use p1_letters as letters;
@@ -39,6 +39,32 @@ pub struct Composition {
 pub enum Written {
     Wrote(usize),
     Refused(Refusal),
+}
+
+// ---- cells
+
+pub fn blank() -> Cell
+    ensures { λ r. ⌜ r ≡ blankCell ⌝ }
+{
+    Cell {
+        base: 0,
+        mark: 0,
+        tone: 0,
+        upper: false,
+    }
+}
+
+// The cell that a letter is appended as.
+pub fn typed(ch: u32) -> Cell
+    ensures { λ r. ⌜ r ≡ typedCell ch ⌝ }
+{
+    let capital = letters::is_capital(ch);
+    Cell {
+        base: ch,
+        mark: 0,
+        tone: 0,
+        upper: capital,
+    }
 }
 
 // ---- soundness
