@@ -63,10 +63,10 @@ extern "C" {
 uint32_t pasdrongel_check_letter(uint32_t letter);
 
 /* The small letter of a capital; every other letter is its own. Refuses by 1 what is no letter. */
-uint32_t pasdrongel_lower(uint32_t letter, uint32_t *lower);
+uint32_t pasdrongel_lower(uint32_t letter, uint32_t *small);
 
 /* The capital of a small letter; every other letter is its own. Refuses by 1 what is no letter. */
-uint32_t pasdrongel_upper(uint32_t letter, uint32_t *upper);
+uint32_t pasdrongel_upper(uint32_t letter, uint32_t *capital);
 
 /* `*yes` is 1 for A to Z and the 67 Vietnamese capitals, else 0. Refuses by 1 what is no letter. */
 uint32_t pasdrongel_is_capital(uint32_t letter, uint32_t *yes);

@@ -6,8 +6,8 @@ use std::fmt::{Debug, Formatter, UpperHex};
 pub mod host {
     extern "C" {
         pub fn pasdrongel_check_letter(letter: u32) -> u32;
-        pub fn pasdrongel_lower(letter: u32, lower: *mut u32) -> u32;
-        pub fn pasdrongel_upper(letter: u32, upper: *mut u32) -> u32;
+        pub fn pasdrongel_lower(letter: u32, small: *mut u32) -> u32;
+        pub fn pasdrongel_upper(letter: u32, capital: *mut u32) -> u32;
         pub fn pasdrongel_is_capital(letter: u32, yes: *mut u32) -> u32;
         pub fn pasdrongel_is_white_space(letter: u32, yes: *mut u32) -> u32;
         pub fn pasdrongel_tone_on(letter: u32, tone: u32, toned: *mut u32) -> u32;

@@ -2,3 +2,4 @@
 // refusal's number of document 01's table, 0 for none; after a refusal every lent place is as it was.
 // All exports stand in this one crate, a module for each subject: the archive has this crate's alone.
 pub mod letters;
+pub mod utf8;

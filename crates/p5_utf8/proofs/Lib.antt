@@ -1,0 +1,7 @@
+pub mod Grammar
+pub mod CharAt
+pub mod Encode
+pub mod Putting
+pub mod Exact
+pub mod Answers
+pub mod Examples

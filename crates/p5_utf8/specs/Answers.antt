@@ -1,0 +1,50 @@
+-- What the reader and the writer answer and leave in the lent output, given what there is to write.
+use Prim.Native.Nat.{ℕ}
+use mathlib.Core.List.{List, [], _++_}
+use lib.Dec.{ltb}
+use lib.ListN.{length, drop}
+use Rattle.p0_choice.specs.Choice.{pick}
+use Rattle.p0_refusals.specs.declared.Refusal.{Refusal}
+use Rattle.p0_refusals.specs.declared.Refusal.the-variants.{Short}
+use Rattle.p0_refusals.specs.Refusals as Refusals
+use Rattle.p5_utf8.specs.declared.Answer.{Answer}
+use Rattle.p5_utf8.specs.declared.Answer.the-variants.{Done, Refused}
+
+-- "A refusal returns its number"; 0 where the call is done.
+abbrev pub numberOf : Answer → ℕ
+numberOf (Done n) = 0
+numberOf (Refused r) = Refusals.numberOf r
+
+-- how many letters or bytes were written
+abbrev pub countOf : Answer → ℕ
+countOf (Done n) = n
+countOf (Refused r) = 0
+
+-- What a call has to write, if nothing but the output's length is against it.
+pub data Outcome : Type 0 where
+  writes : List ℕ → Outcome
+  refuses : Refusal → Outcome
+
+-- the letters or bytes to be written
+unfoldable pub content : Outcome → List ℕ
+content (writes xs) = xs
+content (refuses r) = []
+
+-- the answer if any output is long enough
+unfoldable pub counted : Outcome → Answer
+counted (writes xs) = Done (length xs)
+counted (refuses r) = Refused r
+
+-- The answer with so much room lent. "3: the lent output is shorter than the answer", and 3 comes last.
+unfoldable pub answer : Outcome → ℕ → Answer
+answer (writes xs) room = pick (ltb room (length xs)) (Refused Short) (Done (length xs))
+answer (refuses r) room = Refused r
+
+-- "An answer is written from the start of the output; the rest of it keeps its values."
+abbrev pub onto : List ℕ → List ℕ → List ℕ
+onto xs o = xs ++ drop (length xs) o
+
+-- The lent output at the end. "A refusal returns its number; .. lent outputs stay as they were."
+unfoldable pub output : Outcome → List ℕ → List ℕ
+output (writes xs) o = pick (ltb (length o) (length xs)) o (onto xs o)
+output (refuses r) o = o

@@ -1,0 +1,5 @@
+pub mod Letters
+pub mod Surveying
+pub mod Spreading
+pub mod Exact
+pub mod Reading

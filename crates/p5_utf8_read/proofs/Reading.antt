@@ -1,0 +1,73 @@
+-- What `read` answers, by document 01's numbers and in its order; and reading undoes writing.
+use Prim.Native.Nat.{ℕ, _<_, _≤_}
+use mathlib.Core.Path.{_≡_, refl, ap}
+use mathlib.Core.Bool.{Bool, true, false}
+use mathlib.Core.List.{List, _++_}
+use native.Mathlib.Omega.{arith}
+use lib.Dec.{ltb}
+use lib.ListN.{length}
+use borrow.Author.Tests.{lt-ltb, le-ltb}
+use Rattle.p0_choice.specs.Choice.{pick}
+use Rattle.p0_refusals.specs.declared.Refusal.the-variants.{Foreign, Long}
+use Rattle.p1_letters.specs.Alphabet.{inAlphabet, allLetters}
+use Rattle.p5_utf8.specs.declared.Char.the-variants.{Malformed as NoChar}
+use Rattle.p5_utf8.specs.declared.Answer.{Answer}
+use Rattle.p5_utf8.specs.declared.Answer.the-variants.{Done}
+use Rattle.p5_utf8.specs.Rfc3629.{isScalar, encode, encodeAll, charOf}
+use Rattle.p5_utf8.specs.Answers.{writes, refuses, numberOf, answer, output}
+use Rattle.p5_utf8.proofs.Answers.{one-answer}
+use Rattle.p5_utf8_write.specs.Write.{letterLimit, writing}
+use Rattle.p5_utf8_write.proofs.Alphabet.{few-bytes}
+use Rattle.p5_utf8_write.proofs.Writing.{written}
+use Rattle.p5_utf8_read.specs.Read.{byteLimit, letters, reading}
+use Rattle.p5_utf8_read.proofs.Exact.{read-written, first-malformed, first-foreign, letters-exactly}
+
+pub long : (s : List ℕ) (m : ℕ) → byteLimit < length s → numberOf (answer (reading s) m) ≡ 6
+unfolding reading answer
+long s m h = rw (lt-ltb byteLimit (length s) h) refl
+
+module _ (xs : List ℕ) (m : ℕ) (a : allLetters xs ≡ true) where
+  pub malformed : (s : List ℕ) → length (encodeAll xs ++ s) ≤ byteLimit → 0 < length s → charOf s ≡ NoChar
+      → numberOf (answer (reading (encodeAll xs ++ s)) m) ≡ 8
+  unfolding reading answer
+  malformed s h l e = rw (le-ltb byteLimit (length (encodeAll xs ++ s)) h, first-malformed xs a s l e) refl
+
+  pub foreign : (x : ℕ) (s : List ℕ) → length (encodeAll xs ++ (encode x ++ s)) ≤ byteLimit → isScalar x ≡ true → inAlphabet x ≡ false
+      → numberOf (answer (reading (encodeAll xs ++ (encode x ++ s))) m) ≡ 1
+  unfolding reading answer
+  foreign x s h d f = rw (le-ltb byteLimit (length (encodeAll xs ++ (encode x ++ s))) h, first-foreign xs a x s d f) refl
+
+  module _ (h : length (encodeAll xs) ≤ byteLimit) where
+    pub short : m < length xs → numberOf (answer (reading (encodeAll xs)) m) ≡ 3
+    unfolding reading answer
+    short l = rw (le-ltb byteLimit (length (encodeAll xs)) h, read-written xs a, lt-ltb m (length xs) l) refl
+
+    pub done : length xs ≤ m → answer (reading (encodeAll xs)) m ≡ Done (length xs)
+    unfolding reading answer
+    done l = rw (le-ltb byteLimit (length (encodeAll xs)) h, read-written xs a, le-ltb m (length xs) l) refl
+
+-- ---- whatever meets the contract of `read` is its answer and its output
+pub no-second-answer : (s o : List ℕ) (r r' : Answer) (out out' : List ℕ)
+    → r ≡ answer (reading s) (length o) → out ≡ output (reading s) o → r' ≡ answer (reading s) (length o) → out' ≡ output (reading s) o
+    → (r ≡ r') × (out ≡ out')
+no-second-answer s o = one-answer (reading s) o
+
+-- ---- reading and writing
+-- bytes that are read are the encoding of the letters, however many
+pub written-again : (s xs : List ℕ) → reading s ≡ writes xs → length xs ≤ letterLimit → writing xs ≡ writes s
+unfolding reading writing
+written-again s xs e h = go (ltb byteLimit (length s)) e
+  where
+    go : (t : Bool) → pick t (refuses Long) (letters s) ≡ writes xs
+        → pick (ltb letterLimit (length xs)) (refuses Long) (pick (allLetters xs) (writes (encodeAll xs)) (refuses Foreign)) ≡ writes s
+    go true q = let z : _≡_ {A = ℕ} 0 1 = cc in absurd (omega arith)
+    go false q = let k = letters-exactly s xs .0 q in rw (le-ltb letterLimit (length xs) h, k .1, k .0) refl
+
+-- bytes that were written are read back as the letters: 64 letters have at most 192 bytes
+pub read-back : (xs bs : List ℕ) → writing xs ≡ writes bs → reading bs ≡ writes xs
+unfolding reading
+read-back xs bs e =
+    let w = written xs bs e in
+    let n = few-bytes xs (w .1) in
+    let l : length bs ≤ byteLimit = omega (arith, ap length (w .2)) in
+    rw (le-ltb byteLimit (length bs) l, w .2) (read-written xs (w .1))

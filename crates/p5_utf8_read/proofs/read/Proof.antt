@@ -1,0 +1,12 @@
+use Rattle.p5_utf8.proofs.Answers.{call, call-writes, call-room, output-done}
+use borrow.Author.Needs.{needs}
+use Rattle.p5_utf8_read.proofs.read.Statement.{statement}
+use Rattle.p5_utf8_read.proofs.read.Tie as tie
+
+ruleset answers = (needs, call, call-writes, call-room, output-done)
+
+pub read-spec : {M : Type 1} → statement M
+read-spec =
+    tie.close
+    (tie.spec
+    (λ c κs. search answers) (λ c. search answers) (λ c. search answers) (λ c. search answers) (λ c κs. search answers) (λ c. search answers) (λ c. search answers) (λ c. search answers))

@@ -1,0 +1,4 @@
+pub mod Alphabet
+pub mod Measuring
+pub mod Laying
+pub mod Writing

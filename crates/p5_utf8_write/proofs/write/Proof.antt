@@ -1,0 +1,13 @@
+use Rattle.p5_utf8.proofs.Answers.{call}
+use Rattle.p5_utf8_write.proofs.Writing.{lay-letters, lay-room, lay-output}
+use borrow.Author.Needs.{needs}
+use Rattle.p5_utf8_write.proofs.write.Statement.{statement}
+use Rattle.p5_utf8_write.proofs.write.Tie as tie
+
+ruleset answers = (needs, call, lay-letters, lay-room, lay-output)
+
+pub write-spec : {M : Type 1} → statement M
+write-spec =
+    tie.close
+    (tie.spec
+    (λ c κs. search answers) (λ c. search answers) (λ c. search answers) (λ c. search answers) (λ c κs. search answers) (λ c. search answers) (λ c. search answers) (λ c. search answers))

@@ -1,0 +1,12 @@
+-- What C is told of an answer, given what the callee says the answer is.
+use Prim.Native.Nat.{ℕ}
+use mathlib.Core.Path.{_≡_}
+use Rattle.p5_utf8.specs.Answers.{numberOf}
+use Rattle.p5_utf8.specs.declared.Answer.{Answer}
+use Rattle.p6_host.specs.Counts.{countOut}
+
+pub told-number : (g a : Answer) (r : ℕ) → g ≡ a → r ≡ numberOf g → r ≡ numberOf a
+told-number g a r e h = rw e at h
+
+pub told-count : (g a : Answer) (n old : ℕ) → g ≡ a → n ≡ countOut g old → n ≡ countOut a old
+told-count g a n old e h = rw e at h

@@ -1,0 +1,42 @@
+// UTF-8 (port order 5).
+ghost use mathlib.Core.Path.{_≡_};
+ghost use lib.ListN.{length};
+ghost use Rattle.p5_utf8.specs.Answers.{numberOf, answer, output};
+ghost use Rattle.p5_utf8_read.specs.Read.{reading};
+ghost use Rattle.p5_utf8_write.specs.Write.{writing};
+ghost use Rattle.p6_host.specs.Counts.{countOut};
+use p0_refusals::number;
+use p5_utf8::Answer;
+
+// Gives C the number of a refusal, or writes how much was done.
+fn tell(given: Answer, count: &mut usize) -> u32
+    ensures { λ r. ⌜ (r ≡ numberOf given) × (now (count .exit) ≡ countOut given (now (count .entry))) ⌝ }
+{
+    match given {
+        Answer::Done(n) => {
+            *count = n;
+            0
+        }
+        Answer::Refused(refusal) => number(refusal),
+    }
+}
+
+#[no_mangle]
+pub extern "C" fn pasdrongel_read_utf8(bytes: &[u8], letters: &mut [u32], count: &mut usize) -> u32
+    ensures { λ r. ⌜ r ≡ numberOf (answer (reading (now (bytes .entry))) (length (now (letters .entry)))) ⌝ }
+    ensures { λ r. ⌜ now (letters .exit) ≡ output (reading (now (bytes .entry))) (now (letters .entry)) ⌝ }
+    ensures { λ r. ⌜ now (count .exit) ≡ countOut (answer (reading (now (bytes .entry))) (length (now (letters .entry)))) (now (count .entry)) ⌝ }
+{
+    let given = p5_utf8_read::read(bytes, letters);
+    tell(given, count)
+}
+
+#[no_mangle]
+pub extern "C" fn pasdrongel_write_utf8(letters: &[u32], bytes: &mut [u8], count: &mut usize) -> u32
+    ensures { λ r. ⌜ r ≡ numberOf (answer (writing (now (letters .entry))) (length (now (bytes .entry)))) ⌝ }
+    ensures { λ r. ⌜ now (bytes .exit) ≡ output (writing (now (letters .entry))) (now (bytes .entry)) ⌝ }
+    ensures { λ r. ⌜ now (count .exit) ≡ countOut (answer (writing (now (letters .entry))) (length (now (bytes .entry)))) (now (count .entry)) ⌝ }
+{
+    let given = p5_utf8_write::write(letters, bytes);
+    tell(given, count)
+}
