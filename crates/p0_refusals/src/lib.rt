@@ -1,4 +1,6 @@
+// What a call answers: how much it wrote, or why it refuses.
 ghost use mathlib.Core.Path.{_≡_};
+ghost use Rattle.p0_refusals.specs.Answers.{refusalOf, countOf};
 ghost use Rattle.p0_refusals.specs.Refusals.{numberOf};
 
 // Why a call refuses: a row of document 01's table each, in its order.
@@ -40,5 +42,31 @@ pub fn number(refusal: Refusal) -> u32
         Refusal::Malformed => 8,
         Refusal::NoMethod => 9,
         Refusal::Unsound => 10,
+    }
+}
+
+// What a call that fills a lent output answers: how many letters or bytes it wrote, or why it wrote none.
+pub enum Answer {
+    Done(usize),
+    Refused(Refusal),
+}
+
+// The number of an answer, as a host sees it: the refusal's, or 0.
+pub fn refusal_of(answer: Answer) -> u32
+    ensures { λ r. ⌜ r ≡ refusalOf answer ⌝ }
+{
+    match answer {
+        Answer::Done(_) => 0,
+        Answer::Refused(why) => number(why),
+    }
+}
+
+// How much the answer says was written.
+pub fn count_of(answer: Answer) -> usize
+    ensures { λ r. ⌜ r ≡ countOf answer ⌝ }
+{
+    match answer {
+        Answer::Done(n) => n,
+        Answer::Refused(_) => 0,
     }
 }

@@ -3,5 +3,4 @@ pub mod CharAt
 pub mod Encode
 pub mod Putting
 pub mod Exact
-pub mod Answers
 pub mod Examples

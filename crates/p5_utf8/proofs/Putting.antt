@@ -56,4 +56,6 @@ module _ (o : List ℕ) (j x : ℕ) (r : j + length (encode x) ≤ length o) whe
       (sets-eq ((0xf0 + x / 262144) ∷ (0x80 + x / 4096 % 64) ∷ (0x80 + x / 64 % 64) ∷ (0x80 + x % 64) ∷ []) o j (omega (arith, width-4 x l))
       ∙ append-assoc (take j o) _ (drop (j + 4) o)))
 
-pub ruleset rows = (after, width-1, width-2, width-3, width-4, room-1, room-2, room-3, room-4, lt-length-set, put-1, put-2, put-3, put-4)
+pub ruleset rooms = (room-1, room-2, room-3, room-4, lt-length-set)
+
+pub ruleset rows = (after, width-1, width-2, width-3, width-4, put-1, put-2, put-3, put-4)

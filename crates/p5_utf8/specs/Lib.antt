@@ -1,2 +1,1 @@
 pub mod Rfc3629
-pub mod Answers

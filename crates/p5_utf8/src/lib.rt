@@ -4,41 +4,12 @@ ghost use mathlib.Core.Path.{_≡_};
 ghost use mathlib.Core.List.{[], _∷_, _++_};
 ghost use Prim.Native.Nat.{_+_, _≤_, _<_};
 ghost use lib.ListN.{getD, length, take, drop};
-ghost use Rattle.p5_utf8.specs.Answers.{numberOf, countOf};
 ghost use Rattle.p5_utf8.specs.Rfc3629.{encode, _to_, tail, utf8-3, utf8-4, begins, charOf, charAt};
-use p0_refusals as refusals;
-use p0_refusals::Refusal;
 
 // What stands at a place of bytes: a Unicode scalar value and the number of its bytes, or no character.
 pub enum Char {
     Malformed,
     Scalar(u32, usize),
-}
-
-// What the reader and the writer answer: how many letters or bytes they wrote, or why they wrote none.
-pub enum Answer {
-    Done(usize),
-    Refused(Refusal),
-}
-
-// The answer's number, as a host sees it.
-pub fn number(answer: Answer) -> u32
-    ensures { λ r. ⌜ r ≡ numberOf answer ⌝ }
-{
-    match answer {
-        Answer::Done(_) => 0,
-        Answer::Refused(refusal) => refusals::number(refusal),
-    }
-}
-
-// How much the answer says was written.
-pub fn count(answer: Answer) -> usize
-    ensures { λ r. ⌜ r ≡ countOf answer ⌝ }
-{
-    match answer {
-        Answer::Done(n) => n,
-        Answer::Refused(_) => 0,
-    }
 }
 
 fn within(b: u8, low: u8, high: u8) -> bool

@@ -14,7 +14,7 @@ use Rattle.p1_letters.specs.Alphabet.{inAlphabet, allLetters}
 use Rattle.p5_utf8.specs.declared.Char.{Char}
 use Rattle.p5_utf8.specs.declared.Char.the-variants.{Malformed as NoChar, Scalar}
 use Rattle.p5_utf8.specs.Rfc3629.{isScalar, encode, encodeAll, charOf}
-use Rattle.p5_utf8.specs.Answers.{Outcome, writes, refuses}
+use Rattle.p0_refusals.specs.Answers.{Outcome, writes, refuses}
 use Rattle.p5_utf8.proofs.Encode.{some-bytes}
 use Rattle.p5_utf8.proofs.Exact.{found, there}
 use Rattle.p5_utf8_write.proofs.Alphabet.{letter-scalar, all-head}

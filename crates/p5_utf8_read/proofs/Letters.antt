@@ -10,7 +10,7 @@ use Rattle.p0_refusals.specs.declared.Refusal.the-variants.{Foreign, Malformed}
 use Rattle.p1_letters.specs.Alphabet.{inAlphabet}
 use Rattle.p5_utf8.specs.declared.Char.the-variants.{Malformed as NoChar, Scalar}
 use Rattle.p5_utf8.specs.Rfc3629.{encode, charOf, charAt}
-use Rattle.p5_utf8.specs.Answers.{writes, refuses}
+use Rattle.p0_refusals.specs.Answers.{writes, refuses}
 use Rattle.p5_utf8.proofs.Encode.{some-bytes}
 use Rattle.p5_utf8.proofs.Exact.{found}
 use Rattle.p5_utf8_read.specs.Read.{widthOf, before, reads, passed, letters}

@@ -11,34 +11,34 @@ use Rattle.p0_choice.specs.Choice.{pick}
 use Rattle.p0_refusals.specs.declared.Refusal.the-variants.{Foreign, Long}
 use Rattle.p1_letters.specs.Alphabet.{inAlphabet, allLetters}
 use Rattle.p5_utf8.specs.declared.Char.the-variants.{Malformed as NoChar}
-use Rattle.p5_utf8.specs.declared.Answer.{Answer}
-use Rattle.p5_utf8.specs.declared.Answer.the-variants.{Done}
+use Rattle.p0_refusals.specs.declared.Answer.{Answer}
+use Rattle.p0_refusals.specs.declared.Answer.the-variants.{Done}
 use Rattle.p5_utf8.specs.Rfc3629.{isScalar, encode, encodeAll, charOf}
-use Rattle.p5_utf8.specs.Answers.{writes, refuses, numberOf, answer, output}
-use Rattle.p5_utf8.proofs.Answers.{one-answer}
+use Rattle.p0_refusals.specs.Answers.{writes, refuses, refusalOf, answer, output}
+use Rattle.p0_refusals.proofs.Answers.{one-answer}
 use Rattle.p5_utf8_write.specs.Write.{letterLimit, writing}
 use Rattle.p5_utf8_write.proofs.Alphabet.{few-bytes}
 use Rattle.p5_utf8_write.proofs.Writing.{written}
 use Rattle.p5_utf8_read.specs.Read.{byteLimit, letters, reading}
 use Rattle.p5_utf8_read.proofs.Exact.{read-written, first-malformed, first-foreign, letters-exactly}
 
-pub long : (s : List ℕ) (m : ℕ) → byteLimit < length s → numberOf (answer (reading s) m) ≡ 6
+pub long : (s : List ℕ) (m : ℕ) → byteLimit < length s → refusalOf (answer (reading s) m) ≡ 6
 unfolding reading answer
 long s m h = rw (lt-ltb byteLimit (length s) h) refl
 
 module _ (xs : List ℕ) (m : ℕ) (a : allLetters xs ≡ true) where
   pub malformed : (s : List ℕ) → length (encodeAll xs ++ s) ≤ byteLimit → 0 < length s → charOf s ≡ NoChar
-      → numberOf (answer (reading (encodeAll xs ++ s)) m) ≡ 8
+      → refusalOf (answer (reading (encodeAll xs ++ s)) m) ≡ 8
   unfolding reading answer
   malformed s h l e = rw (le-ltb byteLimit (length (encodeAll xs ++ s)) h, first-malformed xs a s l e) refl
 
   pub foreign : (x : ℕ) (s : List ℕ) → length (encodeAll xs ++ (encode x ++ s)) ≤ byteLimit → isScalar x ≡ true → inAlphabet x ≡ false
-      → numberOf (answer (reading (encodeAll xs ++ (encode x ++ s))) m) ≡ 1
+      → refusalOf (answer (reading (encodeAll xs ++ (encode x ++ s))) m) ≡ 1
   unfolding reading answer
   foreign x s h d f = rw (le-ltb byteLimit (length (encodeAll xs ++ (encode x ++ s))) h, first-foreign xs a x s d f) refl
 
   module _ (h : length (encodeAll xs) ≤ byteLimit) where
-    pub short : m < length xs → numberOf (answer (reading (encodeAll xs)) m) ≡ 3
+    pub short : m < length xs → refusalOf (answer (reading (encodeAll xs)) m) ≡ 3
     unfolding reading answer
     short l = rw (le-ltb byteLimit (length (encodeAll xs)) h, read-written xs a, lt-ltb m (length xs) l) refl
 

@@ -15,7 +15,7 @@ use Rattle.p1_letters.specs.Alphabet.{inAlphabet}
 use Rattle.p5_utf8.specs.declared.Char.{Char}
 use Rattle.p5_utf8.specs.declared.Char.the-variants.{Malformed as NoChar, Scalar}
 use Rattle.p5_utf8.specs.Rfc3629.{charAt}
-use Rattle.p5_utf8.specs.Answers.{Outcome, writes, refuses, onto}
+use Rattle.p0_refusals.specs.Answers.{Outcome, writes, refuses, onto}
 use Rattle.p5_utf8.proofs.CharAt.{at-ascii}
 use Rattle.p5_utf8_read.specs.Read.{byteLimit, before, letters, reading}
 use Rattle.p5_utf8_read.proofs.Letters.{at-end, at-malformed, at-char}

@@ -13,10 +13,10 @@ use Rattle.p1_letters.specs.Alphabet.{inAlphabet}
 use Rattle.p1_letters.proofs.Alphabet.{alphabet-ascii}
 use Rattle.p5_utf8.specs.declared.Char.{Char}
 use Rattle.p5_utf8.specs.declared.Char.the-variants.{Malformed as NoChar, Scalar}
-use Rattle.p5_utf8.specs.declared.Answer.{Answer}
-use Rattle.p5_utf8.specs.declared.Answer.the-variants.{Done, Refused}
+use Rattle.p0_refusals.specs.declared.Answer.{Answer}
+use Rattle.p0_refusals.specs.declared.Answer.the-variants.{Done, Refused}
 use Rattle.p5_utf8.specs.Rfc3629.{charAt}
-use Rattle.p5_utf8.specs.Answers.{Outcome, writes, refuses, counted}
+use Rattle.p0_refusals.specs.Answers.{Outcome, writes, refuses, counted}
 use Rattle.p5_utf8.proofs.CharAt.{at-ascii}
 use Rattle.p5_utf8.proofs.Exact.{fits-at}
 use Rattle.p5_utf8_read.specs.Read.{byteLimit, before, letters, reading}

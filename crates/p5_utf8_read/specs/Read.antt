@@ -9,7 +9,7 @@ use Rattle.p1_letters.specs.Alphabet.{inAlphabet}
 use Rattle.p5_utf8.specs.declared.Char.{Char}
 use Rattle.p5_utf8.specs.declared.Char.the-variants.{Malformed as NoChar, Scalar}
 use Rattle.p5_utf8.specs.Rfc3629.{charOf}
-use Rattle.p5_utf8.specs.Answers.{Outcome, writes, refuses}
+use Rattle.p0_refusals.specs.Answers.{Outcome, writes, refuses}
 
 -- "A program line or other bytes to be read as UTF-8: at most 256."
 abbrev pub byteLimit : ℕ

@@ -2,12 +2,12 @@
 ghost use mathlib.Core.Path.{_≡_};
 ghost use Prim.Native.Nat.{_≤_};
 ghost use lib.ListN.{length};
-ghost use Rattle.p5_utf8.specs.Answers.{writes, content, counted, answer, onto, output};
+ghost use Rattle.p0_refusals.specs.Answers.{writes, content, counted, answer, onto, output};
 ghost use Rattle.p5_utf8_read.specs.Read.{reading};
+use p0_refusals::Answer;
 use p0_refusals::Refusal;
 use p1_letters as letters;
 use p5_utf8 as utf8;
-use p5_utf8::Answer;
 use p5_utf8::Char;
 
 // The most bytes that are read; `byteLimit` says the same.

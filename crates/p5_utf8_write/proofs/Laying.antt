@@ -8,7 +8,7 @@ use lib.ListN.{length, getD, take, drop, length-append, length-drop, drop-of-len
 use lib.Seq.{take-at, drop-at, length-take-le, drop-drop}
 use Rattle.p1_letters.specs.Alphabet.{allLetters}
 use Rattle.p5_utf8.specs.Rfc3629.{encode, encodeAll}
-use Rattle.p5_utf8.specs.Answers.{onto}
+use Rattle.p0_refusals.specs.Answers.{onto}
 use Rattle.p5_utf8_write.proofs.Alphabet.{letter-low, all-at}
 use Rattle.p5_utf8_write.proofs.Measuring.{rest, bytes-on}
 

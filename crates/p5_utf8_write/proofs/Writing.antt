@@ -11,10 +11,10 @@ use Rattle.p0_choice.specs.Choice.{pick}
 use Rattle.p0_refusals.specs.declared.Refusal.the-variants.{Foreign, Long}
 use Rattle.p1_letters.specs.Alphabet.{allLetters}
 use Rattle.p5_utf8.specs.Rfc3629.{encodeAll}
-use Rattle.p5_utf8.specs.Answers.{writes, refuses, numberOf, content, counted, answer, onto, output}
-use Rattle.p5_utf8.specs.declared.Answer.{Answer}
-use Rattle.p5_utf8.specs.declared.Answer.the-variants.{Done}
-use Rattle.p5_utf8.proofs.Answers.{counts, output-done, one-answer}
+use Rattle.p0_refusals.specs.Answers.{writes, refuses, refusalOf, content, counted, answer, onto, output}
+use Rattle.p0_refusals.specs.declared.Answer.{Answer}
+use Rattle.p0_refusals.specs.declared.Answer.the-variants.{Done}
+use Rattle.p0_refusals.proofs.Answers.{counts, output-done, one-answer}
 use Rattle.p5_utf8_write.specs.Write.{letterLimit, writing}
 
 -- ---- bytes are written exactly of at most 64 letters
@@ -42,16 +42,16 @@ module _ (xs : List ℕ) (v : Answer) (n : ℕ) (e : v ≡ counted (writing xs))
   lay-output o out h f = output-done (writing xs) v e n q o out h (rw (is-written .2) f)
 
 -- ---- each refusal has its condition, in document 01's order
-pub long : (xs : List ℕ) (m : ℕ) → letterLimit < length xs → numberOf (answer (writing xs) m) ≡ 6
+pub long : (xs : List ℕ) (m : ℕ) → letterLimit < length xs → refusalOf (answer (writing xs) m) ≡ 6
 unfolding writing answer
 long xs m h = rw (lt-ltb letterLimit (length xs) h) refl
 
 module _ (xs : List ℕ) (m : ℕ) (h : length xs ≤ letterLimit) where
-  pub foreign : allLetters xs ≡ false → numberOf (answer (writing xs) m) ≡ 1
+  pub foreign : allLetters xs ≡ false → refusalOf (answer (writing xs) m) ≡ 1
   unfolding writing answer
   foreign a = rw (le-ltb letterLimit (length xs) h, a) refl
 
-  pub short : allLetters xs ≡ true → m < length (encodeAll xs) → numberOf (answer (writing xs) m) ≡ 3
+  pub short : allLetters xs ≡ true → m < length (encodeAll xs) → refusalOf (answer (writing xs) m) ≡ 3
   unfolding writing answer
   short a l = rw (le-ltb letterLimit (length xs) h, a, lt-ltb m (length (encodeAll xs)) l) refl
 

@@ -7,7 +7,7 @@ use Rattle.p0_choice.specs.Choice.{pick}
 use Rattle.p0_refusals.specs.declared.Refusal.the-variants.{Foreign, Long}
 use Rattle.p1_letters.specs.Alphabet.{allLetters}
 use Rattle.p5_utf8.specs.Rfc3629.{encodeAll}
-use Rattle.p5_utf8.specs.Answers.{Outcome, writes, refuses}
+use Rattle.p0_refusals.specs.Answers.{Outcome, writes, refuses}
 
 -- "letters to be written as UTF-8: at most 64"
 abbrev pub letterLimit : ℕ

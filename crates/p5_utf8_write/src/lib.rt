@@ -4,13 +4,13 @@ ghost use mathlib.Core.Bool.{true};
 ghost use Prim.Native.Nat.{_≤_};
 ghost use lib.ListN.{length};
 ghost use Rattle.p1_letters.specs.Alphabet.{allLetters};
-ghost use Rattle.p5_utf8.specs.Answers.{counted, answer, onto, output};
+ghost use Rattle.p0_refusals.specs.Answers.{counted, answer, onto, output};
 ghost use Rattle.p5_utf8.specs.Rfc3629.{encodeAll};
 ghost use Rattle.p5_utf8_write.specs.Write.{writing};
+use p0_refusals::Answer;
 use p0_refusals::Refusal;
 use p1_letters as letters;
 use p5_utf8 as utf8;
-use p5_utf8::Answer;
 
 // The most letters that are written; `letterLimit` says the same.
 pub const LETTERS: usize = 64;

@@ -1,16 +1,16 @@
 // UTF-8 (port order 5).
 ghost use mathlib.Core.Path.{_≡_};
 ghost use lib.ListN.{length};
-ghost use Rattle.p5_utf8.specs.Answers.{numberOf, answer, output};
+ghost use Rattle.p0_refusals.specs.Answers.{refusalOf, answer, output};
 ghost use Rattle.p5_utf8_read.specs.Read.{reading};
 ghost use Rattle.p5_utf8_write.specs.Write.{writing};
 ghost use Rattle.p6_host.specs.Counts.{countOut};
+use p0_refusals::Answer;
 use p0_refusals::number;
-use p5_utf8::Answer;
 
 // Gives C the number of a refusal, or writes how much was done.
 fn tell(given: Answer, count: &mut usize) -> u32
-    ensures { λ r. ⌜ (r ≡ numberOf given) × (now (count .exit) ≡ countOut given (now (count .entry))) ⌝ }
+    ensures { λ r. ⌜ (r ≡ refusalOf given) × (now (count .exit) ≡ countOut given (now (count .entry))) ⌝ }
 {
     match given {
         Answer::Done(n) => {
@@ -23,7 +23,7 @@ fn tell(given: Answer, count: &mut usize) -> u32
 
 #[no_mangle]
 pub extern "C" fn pasdrongel_read_utf8(bytes: &[u8], letters: &mut [u32], count: &mut usize) -> u32
-    ensures { λ r. ⌜ r ≡ numberOf (answer (reading (now (bytes .entry))) (length (now (letters .entry)))) ⌝ }
+    ensures { λ r. ⌜ r ≡ refusalOf (answer (reading (now (bytes .entry))) (length (now (letters .entry)))) ⌝ }
     ensures { λ r. ⌜ now (letters .exit) ≡ output (reading (now (bytes .entry))) (now (letters .entry)) ⌝ }
     ensures { λ r. ⌜ now (count .exit) ≡ countOut (answer (reading (now (bytes .entry))) (length (now (letters .entry)))) (now (count .entry)) ⌝ }
 {
@@ -33,7 +33,7 @@ pub extern "C" fn pasdrongel_read_utf8(bytes: &[u8], letters: &mut [u32], count:
 
 #[no_mangle]
 pub extern "C" fn pasdrongel_write_utf8(letters: &[u32], bytes: &mut [u8], count: &mut usize) -> u32
-    ensures { λ r. ⌜ r ≡ numberOf (answer (writing (now (letters .entry))) (length (now (bytes .entry)))) ⌝ }
+    ensures { λ r. ⌜ r ≡ refusalOf (answer (writing (now (letters .entry))) (length (now (bytes .entry)))) ⌝ }
     ensures { λ r. ⌜ now (bytes .exit) ≡ output (writing (now (letters .entry))) (now (bytes .entry)) ⌝ }
     ensures { λ r. ⌜ now (count .exit) ≡ countOut (answer (writing (now (letters .entry))) (length (now (bytes .entry)))) (now (count .entry)) ⌝ }
 {

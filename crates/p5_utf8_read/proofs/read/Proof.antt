@@ -1,4 +1,4 @@
-use Rattle.p5_utf8.proofs.Answers.{call, call-writes, call-room, output-done}
+use Rattle.p0_refusals.proofs.Answers.{call, call-writes, call-room, output-done}
 use borrow.Author.Needs.{needs}
 use Rattle.p5_utf8_read.proofs.read.Statement.{statement}
 use Rattle.p5_utf8_read.proofs.read.Tie as tie

@@ -2,7 +2,7 @@ use Prim.Native.Nat.{_≤_, _-_}
 use mathlib.Core.Path.{_≡_, refl}
 use lib.ListN.{length, drop}
 use borrow.Author.Needs.{needs}
-use Rattle.p5_utf8.specs.Answers.{writes, content}
+use Rattle.p0_refusals.specs.Answers.{writes, content}
 use Rattle.p5_utf8_read.specs.Read.{letters, reading}
 use Rattle.p5_utf8_read.proofs.Surveying.{char-fits, char-on}
 use Rattle.p5_utf8_read.proofs.Spreading.{over, spread-start, spread-done, spread-never, letter-room, letter-next, letter-on, letter-out, ascii-room, ascii-next, ascii-on, ascii-out}

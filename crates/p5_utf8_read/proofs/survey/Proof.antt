@@ -2,7 +2,7 @@ use Prim.Native.Nat.{_≤_, _-_}
 use mathlib.Core.Path.{_≡_, refl}
 use lib.ListN.{length, drop}
 use borrow.Author.Needs.{needs}
-use Rattle.p5_utf8.specs.Answers.{counted}
+use Rattle.p0_refusals.specs.Answers.{counted}
 use Rattle.p5_utf8_read.specs.Read.{letters, reading}
 use Rattle.p5_utf8_read.proofs.Surveying.{countedFrom, survey-long, survey-start, survey-done, survey-malformed, survey-foreign, survey-on, survey-ascii, char-fits, char-on}
 use Rattle.p5_utf8_read.proofs.survey.Statement.{statement}

@@ -1,4 +1,4 @@
-use Rattle.p5_utf8.proofs.Answers.{call}
+use Rattle.p0_refusals.proofs.Answers.{call}
 use Rattle.p5_utf8_write.proofs.Writing.{lay-letters, lay-room, lay-output}
 use borrow.Author.Needs.{needs}
 use Rattle.p5_utf8_write.proofs.write.Statement.{statement}

@@ -5,11 +5,11 @@ use mathlib.Core.List.{List}
 use native.Mathlib.Omega.{arith}
 use lib.ListN.{length}
 use Rattle.p0_choice.proofs.Choices.{picks, pick-not-lt}
 use Rattle.p0_refusals.specs.declared.Refusal.{Refusal}
 use Rattle.p0_refusals.specs.declared.Refusal.the-variants.{Short}
-use Rattle.p5_utf8.specs.Answers.{Outcome, writes, refuses, content, counted, answer, onto, output}
-use Rattle.p5_utf8.specs.declared.Answer.{Answer}
-use Rattle.p5_utf8.specs.declared.Answer.the-variants.{Done, Refused}
+use Rattle.p0_refusals.specs.Answers.{Outcome, writes, refuses, content, counted, answer, onto, output}
+use Rattle.p0_refusals.specs.declared.Answer.{Answer}
+use Rattle.p0_refusals.specs.declared.Answer.the-variants.{Done, Refused}
 
 -- the count is there exactly if there is something to write
 pub counts : (u : Outcome) (n : ℕ) → counted u ≡ Done n → (u ≡ writes (content u)) × (n ≡ length (content u))

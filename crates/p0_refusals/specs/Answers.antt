@@ -1,19 +1,20 @@
--- What the reader and the writer answer and leave in the lent output, given what there is to write.
+-- Document 01, "A refusal returns its number; .. An answer is written from the start of the output": what a call answers
+-- and leaves in the lent output, given what there is to write.
 use Prim.Native.Nat.{ℕ}
 use mathlib.Core.List.{List, [], _++_}
 use lib.Dec.{ltb}
 use lib.ListN.{length, drop}
 use Rattle.p0_choice.specs.Choice.{pick}
 use Rattle.p0_refusals.specs.declared.Refusal.{Refusal}
 use Rattle.p0_refusals.specs.declared.Refusal.the-variants.{Short}
-use Rattle.p0_refusals.specs.Refusals as Refusals
-use Rattle.p5_utf8.specs.declared.Answer.{Answer}
-use Rattle.p5_utf8.specs.declared.Answer.the-variants.{Done, Refused}
+use Rattle.p0_refusals.specs.Refusals.{numberOf}
+use Rattle.p0_refusals.specs.declared.Answer.{Answer}
+use Rattle.p0_refusals.specs.declared.Answer.the-variants.{Done, Refused}
 
 -- "A refusal returns its number"; 0 where the call is done.
-abbrev pub numberOf : Answer → ℕ
-numberOf (Done n) = 0
-numberOf (Refused r) = Refusals.numberOf r
+abbrev pub refusalOf : Answer → ℕ
+refusalOf (Done n) = 0
+refusalOf (Refused r) = numberOf r
 
 -- how many letters or bytes were written
 abbrev pub countOf : Answer → ℕ
