@@ -1,4 +1,4 @@
--- `p6_lent::reset` meets its contract: a walk of its MIR, by hand, made by hostwalk. The borrow is opened and the composition read whole, what it owns goes to `reset_step`, whose answer's first field is
+-- `p6_lent::reset` meets its contract: a walk of its MIR, by hand. The borrow is opened and the composition read whole, what it owns goes to `reset`, whose answer's first field is
 -- stored over it, and the borrow is closed at that. Assumes nothing.
 use mathlib.Core.Path.{_≡_, refl, ap}
 use Prim.Native.Nat.{ℕ, _<_, _^_}
@@ -32,6 +32,7 @@ use denote.Signature.{plain}
 use denote.Steps.{only, opens, closes, owned, peeks, heard, nothing}
 use denote.Struct.Steps.{spelt}
 use denote.Struct.Laws as LL
+use denote.Enum.Laws as LE
 use denote.Triple.Statement.{Contract, Triple}
 use denote.Triple.Call.{calls-at}
 use denote.Triple.Clauses.{ensured, lasts}
@@ -40,17 +41,20 @@ use denote.Triple.Spec.{Meets, tripleOf}
 use denote.Triple.Table.{entered, cited}
 use denote.Triple.Walked.{says, Stays, stay-ref, stay-none, gave-slice, goes-gave-slice, stay-none-slice, goes-none-slice, walkOf, goes-none, goes-ref, Walks, ends-at, walked, walk-meets}
 use denote.Exit.{yes}
-use Rattle.p6_lent.specs.Steps.{resetStep}
+use Rattle.p3_calls.specs.Settings.{resetTo}
 use Rattle.p3_cells.specs.declared.Composition.{Composition}
-use Rattle.p6_lent.specs.declared.Stepped.{Stepped}
+use Rattle.p3_calls.specs.declared.Changed.{Changed}
+use Rattle.p3_calls.specs.declared.Answer.{Answer}
 use Rattle.p3_cells.proofs.Composition as T
 use Rattle.p3_cells.proofs.Composition.Laws as T′
-use Rattle.p6_lent.proofs.Stepped as S
-use Rattle.p6_lent.proofs.Stepped.Laws as S′
-use Rattle.p6_lent.proofs.reset_step as callee
-use Rattle.p6_lent.proofs.reset_step.Symbol as callee-def
-use Rattle.p6_lent.proofs.reset_step.Symbol.{name as #p6_lent·reset-step}
-use Rattle.p6_lent.proofs.reset_step.Met as callee-thm
+use Rattle.p3_calls.proofs.Answer as E
+use Rattle.p3_calls.proofs.Answer.Laws as E′
+use Rattle.p3_calls.proofs.Changed as S
+use Rattle.p3_calls.proofs.Changed.Laws as S′
+use Rattle.p3_calls.proofs.reset as callee
+use Rattle.p3_calls.proofs.reset.Symbol as callee-def
+use Rattle.p3_calls.proofs.reset.Symbol.{name as #p3_calls·reset}
+use Rattle.p3_calls.proofs.reset.Met as callee-thm
 use Rattle.p6_lent.proofs.reset.Key.{name as #p6_lent·reset}
 use Rattle.p6_lent.proofs.reset as self
 use Rattle.p6_lent.proofs.reset.Statement as stated
@@ -65,6 +69,9 @@ stayed = (stay-ref (0 ∷ []) tt (plain (λ _. T.the-row)), tt)
 abbrev mach : Composition → Val
 mach = LL.val T.the-type T′.the-laws
 
+abbrev said-by : Answer → Val
+said-by = LE.val E.the-type E′.the-laws
+
 abbrev Callee : {M : Type 1} (𝓤 : URA M) (H : Heap 𝓤) (A : Atoms 𝓤) (mem : Memory → SProp 𝓤) (run : Routine → Fun 𝓤) → Contract 𝓤
 Callee 𝓤 H A mem run = tripleOf 𝓤 H A callee.signature (callee.spec 𝓤 H A mem run)
 
@@ -78,20 +85,20 @@ module _ {M : Type 1} (𝓤 : URA M) (H : Heap 𝓤) (A : Atoms 𝓤) (W : Given
   abbrev Post : Val → SProp 𝓤
   Post = walkOf 𝓤 H A self.ended stayed (self.clauses 𝓤 H A at-mem run) .post (((κ, tt), (q, tt), tt, x, at), tt)
 
-  exits : (c : Composition) (k : ℕ) → k < 2 ^ 32 → (c ≡ resetStep h .comp) × (k ≡ resetStep h .code)
-      → ent 𝓤 (⋆ 𝓤 H A (‵ (fobs γ (T.the-row .coded .code c)) ∷ ‵ (fbor κ (Body (mem T.the-row) b o γ)) ∷ ‵ (flft κ q) ∷ [])) (Post (vint w32 k))
+  exits : (c : Composition) (k : Answer) → Is E.the-row k (said-by k ∷ []) → (c ≡ resetTo h .comp) × (k ≡ resetTo h .answer)
+      → ent 𝓤 (⋆ 𝓤 H A (‵ (fobs γ (T.the-row .coded .code c)) ∷ ‵ (fbor κ (Body (mem T.the-row) b o γ)) ∷ ‵ (flft κ q) ∷ [])) (Post (said-by k))
   exits c k kf e =
       qed W (‵ (fobs γ (T.the-row .coded .code c)) ∷ ‵ (fbor κ (Body (mem T.the-row) b o γ)) ∷ ‵ (flft κ q) ∷ []) ∵
-      suffices ! _ (ends-at 𝓤 H A self.ended stayed (self.clauses 𝓤 H A at-mem run) W (((κ, tt), (q, tt), tt, x, at), tt) (vint w32 k) k (c, tt) (tt, tt)) $ says ! e $
+      suffices ! _ (ends-at 𝓤 H A self.ended stayed (self.clauses 𝓤 H A at-mem run) W (((κ, tt), (q, tt), tt, x, at), tt) (said-by k) k (c, tt) (tt, tt)) $ says ! e $
       nothing ! $ move ! (3 ∷ 0 ∷ []) $ join ! $ frame ! $ feqI ! (List Val) (vptr b o ∷ []) (vptr b o ∷ []) refl $ fjoin3 ! $
       nothing ! $ move ! (1 ∷ 0 ∷ []) $ fjoin ! $
-      owned ! u32 (Is u32) (uint-makes 𝓤 H A W w32) k _ (refl, kf) $ move ! (1 ∷ 0 ∷ []) $ done !
+      owned ! E.the-row (Is E.the-row) (LE.makes E.the-type E′.the-plain 𝓤 H A) k _ kf $ move ! (1 ∷ 0 ∷ []) $ done !
 
-  made : (r : Stepped) (v : Val) → Is S.the-row r (v ∷ []) → Is T.the-row (r .comp) (mach (r .comp) ∷ [])
+  made : (r : Changed) (v : Val) → Is S.the-row r (v ∷ []) → Is T.the-row (r .comp) (mach (r .comp) ∷ [])
   made r v is = LL.owed S.the-type S′.the-laws r _ is .0
 
-  code-fits : (r : Stepped) (v : Val) → Is S.the-row r (v ∷ []) → r .code < 2 ^ 32
-  code-fits r v is = LL.owed S.the-type S′.the-laws r _ is .1 .0 .1
+  answered : (r : Changed) (v : Val) → Is S.the-row r (v ∷ []) → Is E.the-row (r .answer) (said-by (r .answer) ∷ [])
+  answered r v is = LL.owed S.the-type S′.the-laws r _ is .1 .0
 
   abbrev passed : Composition × Unit {0}
   passed = (h, tt)
@@ -103,10 +110,10 @@ module _ {M : Type 1} (𝓤 : URA M) (H : Heap 𝓤) (A : Atoms 𝓤) (W : Given
   goes =
       qed W (‵ (T.the-row .own h (mach h ∷ [])) ∷ []) ∵ nothing ! $ move ! (1 ∷ 0 ∷ []) $ join ! $ nothing ! $ join ! $ frame ! $ done !
 
-  said : (r : Stepped) → ent 𝓤 (ensured 𝓤 H A callee.ended (callee.clauses 𝓤 H A at-mem run) tt passed tt r) (fact 𝓤 (r ≡ resetStep h))
-  said r = exE 𝓤 _ (λ ws. snd∗ 𝓤 (sem 𝓤 H A (lasts callee.ended tt passed ws)) (fact 𝓤 (r ≡ resetStep h)))
+  said : (r : Changed) → ent 𝓤 (ensured 𝓤 H A callee.ended (callee.clauses 𝓤 H A at-mem run) tt passed tt r) (fact 𝓤 (r ≡ resetTo h))
+  said r = exE 𝓤 _ (λ ws. snd∗ 𝓤 (sem 𝓤 H A (lasts callee.ended tt passed ws)) (fact 𝓤 (r ≡ resetTo h)))
 
-  module _ (C : Calls 𝓤 H) (Λ : Loops 𝓤 H) (fm : FmC 𝓤 H (W .laws) C) (known : Triple 𝓤 (C #p6_lent·reset-step) (Callee 𝓤 H A at-mem run)) where
+  module _ (C : Calls 𝓤 H) (Λ : Loops 𝓤 H) (fm : FmC 𝓤 H (W .laws) C) (known : Triple 𝓤 (C #p3_calls·reset) (Callee 𝓤 H A at-mem run)) where
     walk : ent 𝓤 (onEntry 𝓤 H A self.signature (κ, tt) (q, tt) x at) (WpFn 𝓤 H C Λ code.function (vptr b o ∷ []) Post)
     walk =
         qed W ((‵ (flft κ q) ⊛ ‵ ftrue) ∷ ‵ (owns (MutRef (named 0) κ T.the-row ∷ []) x at) ∷ []) ∵ split ! $ move ! (2 ∷ []) $ fsplit ! $ fsplit3 ! $ drop ! $ move ! (0 ∷ 1 ∷ 3 ∷ []) $
@@ -119,27 +126,27 @@ module _ {M : Type 1} (𝓤 : URA M) (H : Heap 𝓤) (A : Atoms 𝓤) (W : Given
         assigns ! (of-opd ! (load ! (from ! (hop ! (look ! 9 refl) (stop !))) (look ! 0 refl))) (from ! (stop !)) (init ! 5 refl (LL.lawful T.the-type T′.the-laws 𝓤 H A W .typed h _ was .0)) $
         move ! (1 ∷ []) $ use1 W (raw (Callee 𝓤 H A at-mem run .pre to)) goes $
         calls-at ! fm (Callee 𝓤 H A at-mem run) known to (and-then ! (load ! (from ! (stop !)) (look ! 5 refl)) (no-more !)) (λ v.
-        use1 W (later (some (λ (r : Stepped). (‵ ftrue ⊛ ‵ (S.the-row .own r (v ∷ []))) ⊛ raw (ensured 𝓤 H A callee.ended (callee.clauses 𝓤 H A at-mem run) tt passed tt r)))) (id⊢ 𝓤 _) $ await ! tt $ pick ! (λ r.
-        split ! $ move ! (1 ∷ []) $ use1 W (raw (fact 𝓤 (r ≡ resetStep h))) (said r) $ heard ! (r ≡ resetStep h) (λ e. split ! $ drop ! $
+        use1 W (later (some (λ (r : Changed). (‵ ftrue ⊛ ‵ (S.the-row .own r (v ∷ []))) ⊛ raw (ensured 𝓤 H A callee.ended (callee.clauses 𝓤 H A at-mem run) tt passed tt r)))) (id⊢ 𝓤 _) $ await ! tt $ pick ! (λ r.
+        split ! $ move ! (1 ∷ []) $ use1 W (raw (fact 𝓤 (r ≡ resetTo h))) (said r) $ heard ! (r ≡ resetTo h) (λ e. split ! $ drop ! $
         peeks ! S.the-row (Is S.the-row) (shows 𝓤 H A S.the-row) r (v ∷ []) (λ is.
         -- [what the answer owns; the cell; the open borrow; obs; auth; the locals]
         land ! (from ! (stop !)) (init ! 7 refl (LL.lawful S.the-type S′.the-laws 𝓤 H A W .typed r _ is .0)) $
         rewrite ! 7 (λ (u : Val). ‵ (fat fullShare S′.mir l2 0 u)) (ap only (LL.tells S.the-type S′.the-laws r (v ∷ []) is)) refl $
         assigns ! (of-opd ! (load ! (from ! (fld ! refl (stop !))) (look-in ! 7 (sub ! 0 refl (whole !))))) (from ! (hop ! (look ! 9 refl) (stop !))) (store ! 1 refl (LL.lawful T.the-type T′.the-laws 𝓤 H A W .typed (r .comp) _ (made r v is) .0)) $
-        assigns ! (of-opd ! (load ! (from ! (fld ! refl (stop !))) (look-in ! 7 (sub ! 1 refl (whole !))))) (from ! (stop !)) (init ! 11 refl (tt, record { fits = code-fits r v is })) $
+        assigns ! (of-opd ! (load ! (from ! (fld ! refl (stop !))) (look-in ! 7 (sub ! 1 refl (whole !))))) (from ! (stop !)) (init ! 11 refl (LE.lawful E.the-type E′.the-laws 𝓤 H A W tt .typed (r .answer) _ (answered r v is) .0)) $
         drop ! $ use1 W (‵ (cellAt fullShare (T.the-row .mir) (mach (r .comp) ∷ []) b o)) (W .laws .at-raw fullShare T′.mir b o (mach (r .comp))) $
         owned ! T.the-row (Is T.the-row) (LL.makes T.the-type T′.the-plain 𝓤 H A) (r .comp) _ (made r v is) $ move ! (1 ∷ 0 ∷ []) $ closes ! tt T.the-row (r .comp) (mach (r .comp) ∷ []) b o $
         -- [obs; the borrow; the token; the locals]
         returns ! (look ! 9 refl) $ forget ! 3 refl $ forget ! 5 refl $ forget ! 7 refl $ forget ! 9 refl $
         move ! (9 ∷ 10 ∷ []) $ free1 ! $ move ! (7 ∷ 8 ∷ []) $ free1 ! $ move ! (5 ∷ 6 ∷ []) $ free1 ! $ move ! (3 ∷ 4 ∷ []) $ free1 ! $ free0 ! $
-        keep ! (0 ∷ 1 ∷ 2 ∷ []) $ by ! (exits (r .comp) (r .code) (code-fits r v is) (rw e, rw e))))))))))))
+        keep ! (0 ∷ 1 ∷ 2 ∷ []) $ by ! (exits (r .comp) (r .answer) (answered r v is) (rw e, rw e))))))))))))
 
 module _ {M : Type 1} (𝓤 : URA M) (H : Heap 𝓤) (A : Atoms 𝓤) (W : Given 𝓤 H A) (mem : Memory → SProp 𝓤) (run : Routine → Fun 𝓤) where
-  walks : (C : Calls 𝓤 H) (Λ : Loops 𝓤 H) → FmC 𝓤 H (W .laws) C → Triple 𝓤 (C #p6_lent·reset-step) (Callee 𝓤 H A mem run) → Walks 𝓤 H A self.ended stayed (WpFn 𝓤 H C Λ code.function) (self.clauses 𝓤 H A mem run)
+  walks : (C : Calls 𝓤 H) (Λ : Loops 𝓤 H) → FmC 𝓤 H (W .laws) C → Triple 𝓤 (C #p3_calls·reset) (Callee 𝓤 H A mem run) → Walks 𝓤 H A self.ended stayed (WpFn 𝓤 H C Λ code.function) (self.clauses 𝓤 H A mem run)
   walks C Λ fm known = walked 𝓤 H A self.ended stayed (self.clauses 𝓤 H A mem run) (WpFn 𝓤 H C Λ code.function) (λ κs. (ptr-vals, tt)) (λ κs. (mut-tells (named 0) (κs .0) T.the-row, tt))
       (λ κs qs bounds a _ are. via 𝓤 _ (fst∗ 𝓤 _ (emp 𝓤)) (walk 𝓤 H A W mem run (κs .0) (qs .0) (a .0 .ptr .0) (a .0 .ptr .1) (a .0 .name) (a .0 .now) C Λ fm known))
 
-meets : {M : Type 1} (𝓤 : URA M) (H : Heap 𝓤) (A : Atoms 𝓤) → Given 𝓤 H A → (mem : Memory → SProp 𝓤) (run : Routine → Fun 𝓤) (𝓣 : Tables 𝓤 H) → Triple 𝓤 (𝓣 .C #p6_lent·reset-step) (Callee 𝓤 H A mem run)
+meets : {M : Type 1} (𝓤 : URA M) (H : Heap 𝓤) (A : Atoms 𝓤) → Given 𝓤 H A → (mem : Memory → SProp 𝓤) (run : Routine → Fun 𝓤) (𝓣 : Tables 𝓤 H) → Triple 𝓤 (𝓣 .C #p3_calls·reset) (Callee 𝓤 H A mem run)
     → Meets 𝓤 H A self.signature (WpFn 𝓤 H (𝓣 .C) (𝓣 .Λ) code.function) (self.spec 𝓤 H A mem run)
 meets 𝓤 H A W mem run 𝓣 known =
     walk-meets 𝓤 H A self.ended stayed W (goes-ref 𝓤 H A W 1 0 tt (plain (λ _. T.the-row)), tt) (self.clauses 𝓤 H A mem run)
@@ -151,4 +158,4 @@ reset-spec 𝓤 H 𝓜 𝓖 𝓡 =
     entered 𝓤 H (tripleOf 𝓤 H (𝓖 .A) self.signature (self.spec 𝓤 H (𝓖 .A) (𝓜 .mem) (𝓡 .run)))
     (tables 𝓤 H 𝓜 𝓡 code.env .C) (tables 𝓤 H 𝓜 𝓡 code.env .Λ) #p6_lent·reset code.function (code.unfolded 𝓤 H 𝓜 𝓡)
     (meets 𝓤 H (𝓖 .A) (givenOf 𝓤 H 𝓜 𝓖) (𝓜 .mem) (𝓡 .run) (tablesOf 𝓤 H 𝓜 (tables 𝓤 H 𝓜 𝓡 code.env))
-    (cited 𝓤 H (Callee 𝓤 H (𝓖 .A) (𝓜 .mem) (𝓡 .run)) 𝓜 𝓡 code.env #p6_lent·reset-step callee-def.routine code.calls-p6-lent·reset-step (callee-thm.met 𝓤 H 𝓜 𝓖 𝓡)))
+    (cited 𝓤 H (Callee 𝓤 H (𝓖 .A) (𝓜 .mem) (𝓡 .run)) 𝓜 𝓡 code.env #p3_calls·reset callee-def.routine code.calls-p3-calls·reset (callee-thm.met 𝓤 H 𝓜 𝓖 𝓡)))
