@@ -163,7 +163,7 @@ pub fn get_output(state: &[u8], out: &mut [u32]) -> Answer
 
 // ---- methods and modes by their numbers
 
-fn method_of(method: u32) -> InputMethod
+pub fn method_of(method: u32) -> InputMethod
     ensures { λ r. ⌜ r ≡ methodOf method ⌝ }
 {
     if method == 0 {
