@@ -1,0 +1,4 @@
+pub mod Settings
+pub mod Literal
+pub mod Output
+pub mod Kept

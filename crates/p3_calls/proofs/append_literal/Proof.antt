@@ -1,0 +1,13 @@
+use borrow.Author.Needs.{needs}
+use Rattle.p3_cells.proofs.Text.{length-under}
+use Rattle.p3_calls.proofs.Literal.{literal-unsound, literal-foreign, literal-full, literal-done}
+use Rattle.p3_calls.proofs.append_literal.Statement.{statement}
+use Rattle.p3_calls.proofs.append_literal.Tie as tie
+
+ruleset answers = (needs, literal-unsound, literal-foreign, literal-full, literal-done, length-under)
+
+pub append-literal-spec : {M : Type 1} → statement M
+append-literal-spec =
+    tie.close
+    (tie.spec
+    (λ c κs. search answers) (λ c. search answers) (λ c κs. search answers) (λ c. search answers) (λ c. search answers) (λ c κs. search answers) (λ c. search answers) (λ c. search answers) (λ c. search answers) (λ c. search answers))

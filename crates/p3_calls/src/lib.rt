@@ -1,0 +1,194 @@
+// The calls on a composition beside the key and undo (bamboo.rs), by value. Each takes any composition and refuses one that
+// is not sound; after a refusal the composition and the output are what they were.
+ghost use mathlib.Core.Path.{_≡_};
+ghost use lib.ListN.{length};
+ghost use Rattle.p3_calls.specs.Settings.{empty as emptyOf, created, resetTo, methodSet, enabledSet};
+ghost use Rattle.p3_calls.specs.Literal.{literal};
+ghost use Rattle.p3_calls.specs.Output.{textAnswer, textOut, popped, popOut};
+use p0_refusals::Refusal;
+use p1_letters as letters;
+use p2_input_method::InputMethod;
+use p3_cells as cells;
+use p3_cells::Composition;
+use p3_cells::LIMIT;
+use p3_cells::Mode;
+use p3_cells::Written;
+
+// What a call that writes nothing answers.
+pub enum Answer {
+    Done,
+    Refused(Refusal),
+}
+
+pub struct Changed {
+    pub comp: Composition,
+    pub answer: Answer,
+}
+
+pub struct Popped {
+    pub comp: Composition,
+    pub answer: Written,
+}
+
+fn empty(method: InputMethod, mode: Mode) -> Composition
+    ensures { λ r. ⌜ r ≡ emptyOf method mode ⌝ }
+{
+    let z = cells::blank();
+    let cs = [z; LIMIT];
+    Composition {
+        cells: cs,
+        method: method,
+        mode: mode,
+        count: 0,
+    }
+}
+
+pub fn new(method: InputMethod) -> Composition
+    ensures { λ r. ⌜ r ≡ created method ⌝ }
+{
+    empty(method, Mode::Vietnamese)
+}
+
+pub fn reset(c: Composition) -> Changed
+    ensures { λ r. ⌜ r ≡ resetTo c ⌝ }
+{
+    if !cells::sound(c) {
+        return Changed {
+            comp: c,
+            answer: Answer::Refused(Refusal::Unsound),
+        };
+    }
+    let m = c.method;
+    let mode = c.mode;
+    let d = empty(m, mode);
+    Changed {
+        comp: d,
+        answer: Answer::Done,
+    }
+}
+
+pub fn set_method(c: Composition, method: InputMethod) -> Changed
+    ensures { λ r. ⌜ r ≡ methodSet c method ⌝ }
+{
+    if !cells::sound(c) {
+        return Changed {
+            comp: c,
+            answer: Answer::Refused(Refusal::Unsound),
+        };
+    }
+    let mode = c.mode;
+    let d = empty(method, mode);
+    Changed {
+        comp: d,
+        answer: Answer::Done,
+    }
+}
+
+// Vietnamese where enabled, else English.
+pub fn set_enabled(c: Composition, enabled: bool) -> Changed
+    ensures { λ r. ⌜ r ≡ enabledSet c enabled ⌝ }
+{
+    if !cells::sound(c) {
+        return Changed {
+            comp: c,
+            answer: Answer::Refused(Refusal::Unsound),
+        };
+    }
+    let m = c.method;
+    if !enabled {
+        let d = empty(m, Mode::English);
+        return Changed {
+            comp: d,
+            answer: Answer::Done,
+        };
+    }
+    let cs = c.cells;
+    let n = c.count;
+    let d = Composition {
+        cells: cs,
+        method: m,
+        mode: Mode::Vietnamese,
+        count: n,
+    };
+    Changed {
+        comp: d,
+        answer: Answer::Done,
+    }
+}
+
+pub fn append_literal(mut c: Composition, ch: u32) -> Changed
+    ensures { λ r. ⌜ r ≡ literal c ch ⌝ }
+{
+    if !cells::sound(c) {
+        return Changed {
+            comp: c,
+            answer: Answer::Refused(Refusal::Unsound),
+        };
+    }
+    if !letters::in_alphabet(ch) {
+        return Changed {
+            comp: c,
+            answer: Answer::Refused(Refusal::Foreign),
+        };
+    }
+    let n = c.count;
+    if LIMIT <= n {
+        return Changed {
+            comp: c,
+            answer: Answer::Refused(Refusal::Full),
+        };
+    }
+    let x = cells::typed(ch);
+    c.cells[n] = x;
+    c.count = n + 1;
+    Changed {
+        comp: c,
+        answer: Answer::Done,
+    }
+}
+
+pub fn get_output(c: Composition, out: &mut [u32]) -> Written
+    ensures { λ r. ⌜ (r ≡ textAnswer c (length (now (out .entry)))) × (now (out .exit) ≡ textOut c (now (out .entry))) ⌝ }
+{
+    if !cells::sound(c) {
+        return Written::Refused(Refusal::Unsound);
+    }
+    if out.len() < c.count {
+        return Written::Refused(Refusal::Short);
+    }
+    let n = cells::flatten(c, out);
+    Written::Wrote(n)
+}
+
+pub fn pop_last(mut c: Composition, out: &mut [u32]) -> Popped
+    ensures { λ r. ⌜ (r ≡ popped c (now (out .entry))) × (now (out .exit) ≡ popOut c (now (out .entry))) ⌝ }
+{
+    if !cells::sound(c) {
+        return Popped {
+            comp: c,
+            answer: Written::Refused(Refusal::Unsound),
+        };
+    }
+    let n = c.count;
+    if n == 0 {
+        return Popped {
+            comp: c,
+            answer: Written::Refused(Refusal::Empty),
+        };
+    }
+    let m = n - 1;
+    if out.len() < m {
+        return Popped {
+            comp: c,
+            answer: Written::Refused(Refusal::Short),
+        };
+    }
+    let z = cells::blank();
+    c.cells[m] = z;
+    c.count = m;
+    let w = cells::flatten(c, out);
+    Popped {
+        comp: c,
+        answer: Written::Wrote(w),
+    }
+}

@@ -1,0 +1,6 @@
+pub mod Tests
+pub mod Soundness
+pub mod Holding
+pub mod Made
+pub mod SoundTest
+pub mod Text

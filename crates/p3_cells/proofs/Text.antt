@@ -1,0 +1,73 @@
+-- The text of a cell, and writing the text of the cells in use from the start of an output.
+use Prim.Native.Nat.{ℕ, zero, suc, _+_, _<_, _≤_}
+use mathlib.Core.Path.{_≡_, refl, sym, ap, _∙_}
+use mathlib.Core.Bool.{Bool, true, false, not}
+use mathlib.Core.List.{List, [], _∷_, _++_, map}
+use native.Mathlib.Omega.{arith}
+use native.Mathlib.Numerals.{add-one}
+use lib.ListN.{length, getD, take, drop, set, length-map}
+use borrow.Author.Tests.{eq-eqb, ne-eqb, not-true, not-false}
+use Rattle.p0_choice.proofs.Choices.{pick-true, pick-false}
+use Rattle.p1_letters.specs.Alphabet.{isCapital, asciiUpper}
+use Rattle.p1_letters.specs.Tones.{toneColumn, toneFrom, toneOn}
+use Rattle.p3_cells.specs.Cells.{limit, blank, used}
+use Rattle.p3_cells.specs.Text.{letterOf, tonedLetter, shown, textOf}
+use Rattle.p3_cells.specs.declared.Cell.{Cell}
+use Rattle.p3_cells.specs.declared.Composition.{Composition}
+
+pub letter-plain : (x : Cell) → x .mark ≡ 0 → x .base ≡ letterOf x
+unfolding letterOf
+letter-plain x e = rw (eq-eqb (x .mark) 0 e) refl
+
+pub letter-marked : (x : Cell) → (x .mark ≡ 0 → ⊥) → x .mark ≡ letterOf x
+unfolding letterOf
+letter-marked x h = rw (ne-eqb (x .mark) 0 h) refl
+
+pub toned-none : (x : Cell) (l : ℕ) → l ≡ letterOf x → x .tone ≡ 0 → l ≡ tonedLetter x
+unfolding tonedLetter toneOn toneFrom toneColumn
+toned-none x l e h = rw (← e, h) refl
+
+pub toned-some : (x : Cell) (l r : ℕ) → l ≡ letterOf x → r ≡ toneOn l (x .tone) → r ≡ tonedLetter x
+unfolding tonedLetter
+toned-some x l r e q = rw (← e) q
+
+module _ (x : Cell) (t : ℕ) (e : t ≡ tonedLetter x) where
+  pub shown-small : not (x .upper) ≡ true → t ≡ shown x
+  unfolding shown
+  shown-small h = rw (← e) (pick-false (x .upper) t _ t (not-true (x .upper) h) refl)
+
+  pub shown-capital : (v : Bool) → not (x .upper) ≡ false → v ≡ isCapital t → v ≡ true → t ≡ shown x
+  unfolding shown
+  shown-capital v h p q = rw (← e, ← p, q) (pick-true (x .upper) t t t (not-false (x .upper) h) refl)
+
+  pub shown-tried : (v : Bool) (r : ℕ) → not (x .upper) ≡ false → v ≡ isCapital t → v ≡ false → r ≡ asciiUpper t → r ≡ shown x
+  unfolding shown
+  shown-tried v r h p q f = rw (← e, ← p, q) (pick-true (x .upper) r (asciiUpper t) t (not-false (x .upper) h) f)
+
+-- ---- the first i letters are written
+unfoldable pub writtenTo : Composition → ℕ → List ℕ → List ℕ
+writtenTo c i o = textOf (take i (c .cells)) ++ drop i o
+
+pub written-none : (c : Composition) (o : List ℕ) → o ≡ writtenTo c 0 o
+unfolding writtenTo textOf
+written-none c o = refl
+
+more : (xs : List Cell) (o : List ℕ) (i : ℕ) → i < length xs → i < length o
+    → set (map shown (take i xs) ++ drop i o) i (shown (getD xs i blank)) ≡ map shown (take (suc i) xs) ++ drop (suc i) o
+more [] o i h l = absurd (omega arith)
+more (x ∷ xs) [] i h l = absurd (omega arith)
+more (x ∷ xs) (y ∷ o) zero h l = refl
+more (x ∷ xs) (y ∷ o) (suc i) h l = ap (λ (t : List ℕ). shown x ∷ t) (more xs o i (omega arith) (omega arith))
+
+pub written-more : (c : Composition) (o out : List ℕ) (i v : ℕ) → out ≡ writtenTo c i o → v ≡ shown (getD (c .cells) i blank) → length (c .cells) ≡ limit
+    → i < c .count → c .count ≤ limit → c .count ≤ length o → set out i v ≡ writtenTo c (i + 1) o
+unfolding writtenTo textOf
+written-more c o out i v e q n h l m = rw (e, q, add-one i) (more (c .cells) o i (omega arith) (omega arith))
+
+pub written-all : (c : Composition) (o out : List ℕ) (i : ℕ) → out ≡ writtenTo c i o → i ≤ c .count → c .count ≤ i → out ≡ textOf (used c) ++ drop (c .count) o
+unfolding writtenTo used
+written-all c o out i e l h = let d : i ≡ c .count = omega arith in rw (← d) e
+
+-- the length of an array of structs, from that of its list under a map
+pub length-under : {A B : Type 0} (f : A → B) (l : List A) (n : ℕ) → length (map f l) ≡ n → length l ≡ n
+length-under f l n e = sym (length-map l f) ∙ e

@@ -1,0 +1,4 @@
+pub mod Cells
+pub mod Soundness
+pub mod Text
+pub mod Written

@@ -1,0 +1,3 @@
+pub mod Uo
+pub mod Ua
+pub mod Mark

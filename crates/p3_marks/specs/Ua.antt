@@ -1,0 +1,29 @@
+-- Document 01, "A key, step by step", *ua*: "Last two bases u a, no q before: the u becomes ư; its tone and flag stay."
+use Prim.Native.Nat.{ℕ, zero, suc, _-_}
+use mathlib.Core.Bool.{Bool, true, false}
+use mathlib.Core.List.{List, [], _∷_}
+use lib.Dec.{eqb, ltb}
+use lib.ListN.{length, getD, set}
+use Rattle.p0_choice.specs.Choice.{pick}
+use Rattle.p3_cells.specs.Cells.{blank}
+use Rattle.p3_cells.specs.declared.Cell.{Cell}
+use Rattle.p3_marks.specs.Uo.{Place, none, at, baseAt}
+
+-- "no q before": there is no cell before, or its base is no q
+unfoldable pub afterQ : List Cell → ℕ → Bool
+afterQ cs zero = false
+afterQ cs (suc i) = eqb (baseAt cs i) 113
+
+-- the place of the u
+unfoldable pub uaPlace : List Cell → Place
+uaPlace cs =
+    pick (ltb (length cs) 2) none
+    (pick (eqb (baseAt cs (length cs - 2)) 117)
+    (pick (eqb (baseAt cs (length cs - 1)) 97) (pick (afterQ cs (length cs - 2)) none (at (length cs - 2))) none) none)
+
+-- a cell with a letter as its base and mark, tone and flag kept
+unfoldable pub marked : Cell → ℕ → Cell
+marked x l = record { base = l; mark = l; tone = x .tone; upper = x .upper }
+
+unfoldable pub uaMade : List Cell → ℕ → List Cell
+uaMade cs i = set cs i (marked (getD cs i blank) 0x1b0)

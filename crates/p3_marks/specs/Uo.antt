@@ -1,0 +1,43 @@
+-- Document 01, "A key, step by step", *uo*.
+use Prim.Native.Nat.{ℕ, zero, suc}
+use mathlib.Core.Bool.{Bool, true, false}
+use mathlib.Core.List.{List, [], _∷_}
+use lib.Dec.{eqb}
+use lib.ListN.{length, getD, set}
+use Rattle.p0_choice.specs.Choice.{pick}
+use Rattle.p1_letters.specs.Alphabet.{asciiLower}
+use Rattle.p1_letters.specs.Vowels.{isVowel}
+use Rattle.p3_cells.specs.Cells.{blank}
+use Rattle.p3_cells.specs.declared.Cell.{Cell}
+
+-- what a step finds: nothing, or the place of the cell that it changes
+pub data Place : Type 0 where
+  none : Place
+  at : ℕ → Place
+
+-- "every base .. read, in ASCII lower case"
+unfoldable pub baseAt : List Cell → ℕ → ℕ
+baseAt cs i = asciiLower (getD cs i blank .base)
+
+-- "From the last cell back, at most 5 cells and never the first cell, by base: an o after a u makes the pair .. Any other
+-- vowel ends the step." With i cells at hand, of which the last is looked at, n more may be; the place is the u's.
+unfoldable pub uoBack : List Cell → ℕ → ℕ → Place
+uoBack cs zero i = none
+uoBack cs (suc n) zero = none
+uoBack cs (suc n) (suc zero) = none
+uoBack cs (suc n) (suc (suc i)) =
+    pick (eqb (baseAt cs (suc i)) 111) (pick (eqb (baseAt cs i) 117) (at i) none)
+    (pick (isVowel (baseAt cs (suc i))) none (uoBack cs n (suc i)))
+
+unfoldable pub uoPlace : List Cell → Place
+uoPlace cs = uoBack cs 5 (length cs)
+
+-- "ư takes the o's tone and the u's flag; ơ has no tone and no flag; the u's tone is lost."
+unfoldable pub hornU : Cell → Cell → Cell
+hornU u o = record { base = 0x1b0; mark = 0x1b0; tone = o .tone; upper = u .upper }
+
+abbrev pub hornO : Cell
+hornO = record { base = 0x1a1; mark = 0x1a1; tone = 0; upper = false }
+
+unfoldable pub uoMade : List Cell → ℕ → List Cell
+uoMade cs i = set (set cs i (hornU (getD cs i blank) (getD cs (suc i) blank))) (suc i) hornO

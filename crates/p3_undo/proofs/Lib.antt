@@ -1,0 +1,6 @@
+pub mod Raw
+pub mod Last
+pub mod Undo
+pub mod Found
+pub mod Call
+pub mod Kept

@@ -1,0 +1,23 @@
+use borrow.Author.Needs.{needs}
+use Prim.Native.Nat.{_≤_}
+use mathlib.Core.Path.{_≡_, refl}
+use Rattle.p3_cells.specs.Cells.{used}
+use Rattle.p3_undo.specs.Undo.{lastWith, hasMark}
+use Rattle.p3_undo.proofs.Undo.{with-none, with-found, with-on}
+use Rattle.p3_undo.proofs.last_marked.Statement.{statement}
+use Rattle.p3_undo.proofs.last_marked.Tie as tie
+
+abbrev Inv-loop : tie.InvT-loop
+Inv-loop m c i₀ i = (i ≤ c .count) × (lastWith (hasMark m) (used c) (c .count) ≡ lastWith (hasMark m) (used c) i)
+
+abbrev μ-loop : tie.MeasureT-loop
+μ-loop m c i₀ i = i
+
+ruleset answers = (needs, with-none, with-found, with-on, refl)
+
+pub last-marked-spec : {M : Type 1} → statement M
+last-marked-spec =
+    tie.close
+    (tie.spec
+    Inv-loop μ-loop
+    (λ c. search answers) (λ c. search answers) (λ c. search answers) (λ c. search answers) (λ c κs. search answers) (λ c. search answers) (λ c. search answers) (λ c. search answers) (λ c. search answers))

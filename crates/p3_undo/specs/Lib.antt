@@ -1,0 +1,3 @@
+pub mod Raw
+pub mod Undo
+pub mod Call

@@ -1,0 +1,334 @@
+// Undo of the last Telex step (bamboo.rs, undo_telex_transform): what is to be undone is found first, as a small answer,
+// and stored at one place.
+ghost use mathlib.Core.Path.{_≡_};
+ghost use mathlib.Core.Bool.{true};
+ghost use Prim.Native.Nat.{_<_, _≤_, _+_};
+ghost use lib.ListN.{length, getD, drop};
+ghost use Rattle.p0_choice.specs.Choice.{among};
+ghost use Rattle.p0_choice.specs.Text.{word};
+ghost use Rattle.p2_input_method.specs.Rules.{markRules};
+ghost use Rattle.p2_input_method.specs.declared.InputMethod.the-variants.{Telex};
+ghost use Rattle.p3_cells.specs.Cells.{limit, isSound, used};
+ghost use Rattle.p3_undo.specs.Raw.{lowered, endsIn, pairAt, lastEnd, anyPlain, active};
+ghost use Rattle.p3_undo.specs.Undo.{lastWith, hasTone, hasMark, ruleAt, byRules, toneAt, toUndo, toneless as tonelessOf, restored as restoredOf};
+ghost use Rattle.p3_undo.specs.Call.{toldOf, refused, undoFound, undoTelex};
+use p0_refusals::Refusal;
+use p1_letters as letters;
+use p2_input_method as input_method;
+use p2_input_method::InputMethod;
+use p2_input_method::MarkRule;
+use p2_input_method::UndoBehavior;
+use p3_cells as cells;
+use p3_cells::Cell;
+use p3_cells::Composition;
+
+// The longest raw string.
+pub const RAW: usize = 64;
+
+// What becomes of the trigger, or why nothing was undone.
+pub enum TelexUndo {
+    AppendTrigger,
+    ConsumeTrigger,
+    Refused(Refusal),
+}
+
+pub struct Undone {
+    pub comp: Composition,
+    pub answer: TelexUndo,
+}
+
+pub enum Place {
+    Nowhere,
+    At(usize),
+}
+
+// The cell that loses its tone; or the cell that gets a rule's first letter back, with that letter and the rule's behaviour.
+pub enum Undoing {
+    Nothing,
+    Tone(usize),
+    Mark(usize, u32, UndoBehavior),
+}
+
+// ---- the raw string
+
+fn low_at(raw: &[u32], i: usize) -> u32
+    requires { ⌜ i < length (now raw) ⌝ }
+    ensures { λ r. ⌜ r ≡ getD (lowered (now (raw .entry))) i 0 ⌝ }
+{
+    let x = raw[i];
+    letters::ascii_lower(x)
+}
+
+fn ends_in(raw: &[u32], t: u32) -> bool
+    ensures { λ r. ⌜ r ≡ endsIn (lowered (now (raw .entry))) t ⌝ }
+{
+    let n = raw.len();
+    if n == 0 {
+        return false;
+    }
+    low_at(raw, n - 1) == t
+}
+
+fn pair_at(raw: &[u32], a: u32, t: u32, i: usize) -> bool
+    requires { ⌜ i + 1 < length (now raw) ⌝ }
+    ensures { λ r. ⌜ r ≡ pairAt (lowered (now (raw .entry))) a t i ⌝ }
+{
+    if low_at(raw, i) != a {
+        return false;
+    }
+    low_at(raw, i + 1) == t
+}
+
+fn last_end(raw: &[u32], a: u32, t: u32) -> usize
+    ensures { λ r. ⌜ (r ≡ lastEnd (lowered (now (raw .entry))) a t (length (now (raw .entry)))) × (r ≤ length (now (raw .entry))) ⌝ }
+{
+    let mut i = raw.len();
+    while 1 < i {
+        i -= 1;
+        if pair_at(raw, a, t, i - 1) {
+            return i + 1;
+        }
+    }
+    0
+}
+
+fn is_plain(x: u32) -> bool
+    ensures { λ r. ⌜ r ≡ among x (word "aeiouy") ⌝ }
+{
+    match x {
+        97 | 101 | 105 | 111 | 117 | 121 => true,
+        _ => false,
+    }
+}
+
+fn any_plain(raw: &[u32], from: usize) -> bool
+    requires { ⌜ from ≤ length (now raw) ⌝ }
+    ensures { λ r. ⌜ r ≡ anyPlain (drop from (lowered (now (raw .entry)))) ⌝ }
+{
+    let mut i = from;
+    while i < raw.len() {
+        let x = low_at(raw, i);
+        if is_plain(x) {
+            return true;
+        }
+        i += 1;
+    }
+    false
+}
+
+fn has_active_mark_pattern(raw: &[u32], a: u32, t: u32) -> bool
+    ensures { λ r. ⌜ r ≡ active (lowered (now (raw .entry))) a t ⌝ }
+{
+    let e = last_end(raw, a, t);
+    if e == 0 {
+        return false;
+    }
+    !any_plain(raw, e)
+}
+
+// ---- the cells
+
+fn has_tone(t: u32, x: Cell) -> bool
+    ensures { λ r. ⌜ r ≡ hasTone t x ⌝ }
+{
+    if t == 0 {
+        return false;
+    }
+    x.tone as u32 == t
+}
+
+fn has_mark(m: u16, x: Cell) -> bool
+    ensures { λ r. ⌜ r ≡ hasMark m x ⌝ }
+{
+    if x.mark != m {
+        return false;
+    }
+    x.tone == 0
+}
+
+fn last_toned(c: Composition, t: u32) -> Place
+    requires { ⌜ c .count ≤ limit ⌝ }
+    ensures { λ r. ⌜ r ≡ lastWith (hasTone t) (used c) (c .count) ⌝ }
+{
+    let mut i = c.count;
+    while 0 < i {
+        i -= 1;
+        let x = c.cells[i];
+        if has_tone(t, x) {
+            return Place::At(i);
+        }
+    }
+    Place::Nowhere
+}
+
+fn last_marked(c: Composition, m: u16) -> Place
+    requires { ⌜ c .count ≤ limit ⌝ }
+    ensures { λ r. ⌜ r ≡ lastWith (hasMark m) (used c) (c .count) ⌝ }
+{
+    let mut i = c.count;
+    while 0 < i {
+        i -= 1;
+        let x = c.cells[i];
+        if has_mark(m, x) {
+            return Place::At(i);
+        }
+    }
+    Place::Nowhere
+}
+
+// ---- what is to be undone
+
+fn rule_at(c: Composition, raw: &[u32], t: u32, r: MarkRule) -> Place
+    requires { ⌜ c .count ≤ limit ⌝ }
+    ensures { λ p. ⌜ p ≡ ruleAt (used c) (lowered (now (raw .entry))) t r ⌝ }
+{
+    if r.key != t {
+        return Place::Nowhere;
+    }
+    if !has_active_mark_pattern(raw, r.first, r.key) {
+        return Place::Nowhere;
+    }
+    last_marked(c, r.result)
+}
+
+fn by_rules(c: Composition, raw: &[u32], t: u32) -> Undoing
+    requires { ⌜ c .count ≤ limit ⌝ }
+    ensures { λ r. ⌜ r ≡ byRules (used c) (lowered (now (raw .entry))) t (markRules Telex) ⌝ }
+{
+    let mut i: usize = 0;
+    while i < input_method::TELEX_RULES {
+        let r = input_method::telex_rule(i);
+        let p = rule_at(c, raw, t, r);
+        if let Place::At(j) = p {
+            let b = r.undo;
+            return Undoing::Mark(j, r.first, b);
+        }
+        i += 1;
+    }
+    Undoing::Nothing
+}
+
+fn tone_at(c: Composition, raw: &[u32], t: u32) -> Place
+    requires { ⌜ c .count ≤ limit ⌝ }
+    ensures { λ r. ⌜ r ≡ toneAt (used c) (lowered (now (raw .entry))) t ⌝ }
+{
+    if !ends_in(raw, t) {
+        return Place::Nowhere;
+    }
+    last_toned(c, t)
+}
+
+fn to_undo(c: Composition, raw: &[u32], t: u32) -> Undoing
+    requires { ⌜ c .count ≤ limit ⌝ }
+    ensures { λ r. ⌜ r ≡ toUndo (c .method) (used c) (lowered (now (raw .entry))) t ⌝ }
+{
+    let m = c.method;
+    if let InputMethod::Vni = m {
+        return Undoing::Nothing;
+    }
+    let p = tone_at(c, raw, t);
+    if let Place::At(i) = p {
+        return Undoing::Tone(i);
+    }
+    by_rules(c, raw, t)
+}
+
+// ---- the call
+
+fn toneless(x: Cell) -> Cell
+    ensures { λ r. ⌜ r ≡ tonelessOf x ⌝ }
+{
+    Cell {
+        base: x.base,
+        mark: x.mark,
+        tone: 0,
+        upper: x.upper,
+    }
+}
+
+fn restored(a: u32, x: Cell) -> Cell
+    ensures { λ r. ⌜ r ≡ restoredOf a x ⌝ }
+{
+    if !x.upper {
+        return Cell {
+            base: a,
+            mark: 0,
+            tone: x.tone,
+            upper: x.upper,
+        };
+    }
+    let b = letters::ascii_upper(a);
+    Cell {
+        base: b,
+        mark: 0,
+        tone: x.tone,
+        upper: x.upper,
+    }
+}
+
+fn told(b: UndoBehavior) -> TelexUndo
+    ensures { λ r. ⌜ r ≡ toldOf b ⌝ }
+{
+    match b {
+        UndoBehavior::AppendTrigger => TelexUndo::AppendTrigger,
+        UndoBehavior::ConsumeTrigger => TelexUndo::ConsumeTrigger,
+    }
+}
+
+// Stores what is found.
+fn undo_found(mut c: Composition, raw: &[u32], t: u32) -> Undone
+    requires { ⌜ isSound c ≡ true ⌝ }
+    ensures { λ r. ⌜ r ≡ undoFound c (toUndo (c .method) (used c) (lowered (now (raw .entry))) t) ⌝ }
+{
+    let u = to_undo(c, raw, t);
+    match u {
+        Undoing::Nothing => Undone {
+            comp: c,
+            answer: TelexUndo::Refused(Refusal::NoUndo),
+        },
+        Undoing::Tone(i) => {
+            let x = c.cells[i];
+            let y = toneless(x);
+            c.cells[i] = y;
+            Undone {
+                comp: c,
+                answer: TelexUndo::AppendTrigger,
+            }
+        }
+        Undoing::Mark(i, a, b) => {
+            let x = c.cells[i];
+            let y = restored(a, x);
+            c.cells[i] = y;
+            let w = told(b);
+            Undone { comp: c, answer: w }
+        }
+    }
+}
+
+fn refuse(c: Composition, why: Refusal) -> Undone
+    ensures { λ r. ⌜ r ≡ refused c why ⌝ }
+{
+    Undone {
+        comp: c,
+        answer: TelexUndo::Refused(why),
+    }
+}
+
+pub fn undo_telex_transform(c: Composition, trigger: u32, raw: &[u32]) -> Undone
+    ensures { λ r. ⌜ r ≡ undoTelex c trigger (now (raw .entry)) ⌝ }
+{
+    if !cells::sound(c) {
+        return refuse(c, Refusal::Unsound);
+    }
+    if RAW < raw.len() {
+        return refuse(c, Refusal::Long);
+    }
+    if !letters::in_alphabet(trigger) {
+        return refuse(c, Refusal::Foreign);
+    }
+    if !letters::all_letters(raw) {
+        return refuse(c, Refusal::Foreign);
+    }
+    let t = letters::ascii_lower(trigger);
+    undo_found(c, raw, t)
+}
