@@ -27,11 +27,11 @@ pub fn compare(run: &mut Run) {
     let mut total = GUARD_COUNT;
     let returns = unsafe { host::pasdrongel_total(&mut total) };
     run.compare("total", (returns, total), (0, listing().len()), Vec::new, || "the total".to_string());
-    run.begin("word_number: every number, room 0 to 10");
+    run.begin("word: every number, room 0 to 10");
     for place in 0..listing().len() {
         (0..=ROOM).for_each(|room| number(run, place, room));
     }
-    run.begin("word_number: numbers past the end");
+    run.begin("word: numbers past the end");
     for place in past_the_end() {
         [0, ROOM].iter().for_each(|&room| number(run, place, room));
     }
@@ -84,9 +84,9 @@ pub fn compare(run: &mut Run) {
 }
 
 fn number(run: &mut Run, place: usize, room: usize) {
-    let theirs = Left::by(oracle::word_number(place, room), room, GUARD);
+    let theirs = Left::by(oracle::word(place, room), room, GUARD);
     let size = || vec![(place >> 32) as u32, place as u32, room as u32];
-    run.compare("word_number", calls::word_number(place, room), theirs, size, || format!("{place}, room {room}"));
+    run.compare("word", calls::word(place, room), theirs, size, || format!("{place}, room {room}"));
 }
 
 fn next(run: &mut Run, word: &[u32], room: usize) {
@@ -100,7 +100,7 @@ pub fn fixed() -> Vec<String> {
     let mut lines = vec![format!("total = {total}")];
     let told = |answer: Result<Vec<u32>, u32>| answer.map_or_else(refused, |word| bracketed(&word));
     let mut number = |place: usize, room: usize| {
-        lines.push(format!("word_number {place} room {room} = {}", told(oracle::word_number(place, room))));
+        lines.push(format!("word {place} room {room} = {}", told(oracle::word(place, room))));
     };
     (0..=40).for_each(|place| number(place, 8));
     (41..total).step_by(17).for_each(|place| number(place, 8));

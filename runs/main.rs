@@ -13,6 +13,7 @@ mod engine;
 mod fixed;
 mod letters;
 mod lister;
+mod methods;
 mod oracle;
 mod report;
 mod session;
@@ -32,6 +33,7 @@ pub struct Subject {
 /// Every subject, in document 01's port order.
 const SUBJECTS: &[Subject] = &[
     Subject { name: "letters", compare: letters::compare, fixed: letters::fixed },
+    Subject { name: "methods", compare: methods::compare, fixed: methods::fixed },
     Subject { name: "composer", compare: composer::compare, fixed: composer::fixed },
     Subject { name: "spelling", compare: spelling::compare, fixed: spelling::fixed },
     Subject { name: "lister", compare: lister::compare, fixed: lister::fixed },

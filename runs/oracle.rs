@@ -167,12 +167,11 @@ fn fitting(word: &[u32], room: usize) -> Result<Vec<u32>, u32> {
     if word.len() > room { Err(SHORT) } else { Ok(word.to_vec()) }
 }
 
-pub fn word_number(number: usize, room: usize) -> Result<Vec<u32>, u32> {
+pub fn word(number: usize, room: usize) -> Result<Vec<u32>, u32> {
     fitting(listing().get(number).ok_or(NO_WORD)?, room)
 }
 
-pub fn next_word(word: &[u32], room: usize) -> Result<Vec<u32>, u32> {
-    permitted(word)?;
-    let next = listing().partition_point(|listed| &listed[..] <= word);
-    word_number(next, room)
+pub fn next_word(after: &[u32], room: usize) -> Result<Vec<u32>, u32> {
+    permitted(after)?;
+    word(listing().partition_point(|listed| &listed[..] <= after), room)
 }

@@ -15,8 +15,8 @@
 #define MARGIN 4
 #define MOST 1024
 #define MOST_SHOWN 20
-#define COMPOSITION_BYTES 259
-#define CELLS 32
+#define COMPOSITION_BYTES PASDRONGEL_COMPOSITION_BYTES
+#define CELLS PASDRONGEL_CELLS
 /* The room of a session's outputs where it names no other. */
 #define ROOM 40
 
@@ -47,7 +47,7 @@ static const struct {
     {"is_speller_vowel", pasdrongel_is_speller_vowel},
 };
 
-static const char *file;
+static const char *file, *called;
 static unsigned long line_number;
 
 static void bad_line(const char *why)
@@ -162,7 +162,7 @@ static void read_answer(struct answer *answer)
         read_bracketed(&answer->list);
     } else if (strcmp(word, "yes") == 0) {
         add_item(&answer->list, "1");
-    } else if (strcmp(word, "no") == 0) {
+    } else if (strcmp(word, "no") == 0 || strcmp(word, "none") == 0) {
         add_item(&answer->list, "0");
     } else if (strcmp(word, "done") != 0 && strcmp(word, "nothing") != 0) {
         struct list rest;
@@ -273,6 +273,25 @@ static int replay_verdict(void)
     return refusal == answer.refusal && yes == number_after(&answer);
 }
 
+/* `mark_for 0 [ aw ] = [ \304\203 ]`, `is_tone_key 0 [ s ] = yes`: a method and letters. */
+static int replay_method(void)
+{
+    struct list letters;
+    struct answer answer;
+    uint32_t method = (uint32_t)read_number(), out = GUARD, refusal;
+    expect("[");
+    read_bracketed(&letters);
+    expect("=");
+    read_answer(&answer);
+    if (letters.length == 2)
+        refusal = pasdrongel_mark_for(method, letters.items[0], letters.items[1], &out);
+    else if (called[3] == 't')
+        refusal = pasdrongel_is_tone_key(method, letters.items[0], &out);
+    else
+        refusal = pasdrongel_is_horn_key(method, letters.items[0], &out);
+    return refusal == answer.refusal && out == number_after(&answer);
+}
+
 static int replay_total(void)
 {
     size_t total = GUARD;
@@ -289,14 +308,14 @@ static int letters_answered(uint32_t refusal)
     return refusal == answer.refusal && count == count_after(&answer) && output_has(&answer.list);
 }
 
-/* `word_number 13 room 8 = [ b ]` */
-static int replay_word_number(void)
+/* `word 13 room 8 = [ b ]` */
+static int replay_word(void)
 {
     size_t number = read_number(), room;
     expect("room");
     room = read_number();
     lend_output();
-    return letters_answered(pasdrongel_word_number(number, output + MARGIN, room, &count));
+    return letters_answered(pasdrongel_word(number, output + MARGIN, room, &count));
 }
 
 /* `next_word room 8 : [ az ] = [ b ]` */
@@ -502,10 +521,13 @@ static const struct {
     int (*replay)(void);
 } spelled_calls[] = {
     {"session", replay_session},
+    {"is_tone_key", replay_method},
+    {"is_horn_key", replay_method},
+    {"mark_for", replay_method},
     {"cut", replay_cut},
     {"verdict", replay_verdict},
     {"total", replay_total},
-    {"word_number", replay_word_number},
+    {"word", replay_word},
     {"next_word", replay_next_word},
 };
 
@@ -514,7 +536,7 @@ static int replay(char *line)
 {
     static struct list input;
     static struct answer answer;
-    const char *name = strtok(line, " ");
+    const char *name = called = strtok(line, " ");
     uint32_t out = GUARD;
     size_t i;
     for (i = 0; i < sizeof spelled_calls / sizeof *spelled_calls; i++)
