@@ -135,6 +135,12 @@ uint32_t pasdrongel_new(uint8_t *state, size_t size, uint32_t method);
 /* Are these the bytes of a sound composition? 0 if they are, 10 if they are not. */
 uint32_t pasdrongel_composition_ok(const uint8_t *state, size_t size);
 
+/* Takes a key of the input method, and writes the text that stands then, as pasdrongel_text; in English mode the key changes
+ * nothing, and that one letter is written. Refuses by 1 if `key` is no letter, by 2 if a letter must be appended and all
+ * cells are used, by 3 if `room` is less than the letters; then the key is not taken. */
+uint32_t pasdrongel_key(
+    uint8_t *state, size_t size, uint32_t key, uint32_t *text, size_t room, size_t *count);
+
 /* The text, from the start of `text`, which has room for `room` letters, and their number to `*count`. Refuses by 3 if `room`
  * is less than the letters. */
 uint32_t pasdrongel_text(const uint8_t *state, size_t size, uint32_t *text, size_t room, size_t *count);

@@ -19,6 +19,8 @@ pub mod host {
         pub fn pasdrongel_mark_for(method: u32, base: u32, key: u32, mark: *mut u32) -> u32;
         pub fn pasdrongel_new(state: *mut u8, size: usize, method: u32) -> u32;
         pub fn pasdrongel_composition_ok(state: *const u8, size: usize) -> u32;
+        pub fn pasdrongel_key(
+            state: *mut u8, size: usize, key: u32, text: *mut u32, room: usize, count: *mut usize) -> u32;
         pub fn pasdrongel_text(
             state: *const u8, size: usize, text: *mut u32, room: usize, count: *mut usize) -> u32;
         pub fn pasdrongel_literal(state: *mut u8, size: usize, letter: u32) -> u32;

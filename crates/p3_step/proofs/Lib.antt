@@ -1,0 +1,5 @@
+pub mod Steps
+pub mod Cells
+pub mod Makes
+pub mod Same
+pub mod Kept
