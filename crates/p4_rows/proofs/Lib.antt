@@ -1,0 +1,5 @@
+pub mod Words
+pub mod Listed
+pub mod Keys
+pub mod Pairs
+pub mod Spread

@@ -1,0 +1,33 @@
+-- The answers, from what the calls in them answer; at the places of the cut the parts are onset, vowels and coda.
+use Prim.Native.Nat.{ℕ, _+_, _-_}
+use mathlib.Core.Path.{_≡_, refl, ap, _∙_}
+use mathlib.Core.List.{List, []}
+use native.Mathlib.Omega.{arith}
+use lib.ListN.{length, take, drop}
+use borrow.Author.Tests.{le-ltb}
+use Rattle.p4_rows.specs.Rows.{Word}
+use Rattle.p4_spelling.specs.declared.Places.{Places}
+use Rattle.p4_spelling.specs.declared.Cut.the-variants.{At}
+use Rattle.p4_spelling.specs.Cut.{vowelRun, onsetEnd, vowelsEnd, onsetOf, vowelsOf, codaOf}
+use Rattle.p4_spelling.specs.Answers.{placesOf, onsetPart, vowelsPart, codaPart}
+use Rattle.p4_spelling.proofs.Scans.{onset-le, vowels-le, onset-first}
+
+pub cut-at-is : (p q : Places) → p ≡ q → At p ≡ At q
+cut-at-is p q e = ap At e
+
+run-long : (w : Word) → take (vowelsEnd w - onsetEnd w) (drop (onsetEnd w) w) ≡ take (vowelRun (drop (onsetEnd w) w)) (drop (onsetEnd w) w)
+unfolding vowelsEnd
+run-long w = let e : onsetEnd w + vowelRun (drop (onsetEnd w) w) - onsetEnd w ≡ vowelRun (drop (onsetEnd w) w) = omega arith in rw e
+
+module _ (w : Word) where
+  pub onset-at : onsetPart w (placesOf w) ≡ onsetOf w
+  unfolding onsetPart placesOf onsetOf
+  onset-at = rw (le-ltb (length w) (onsetEnd w) (onset-le w))
+
+  pub vowels-at : vowelsPart w (placesOf w) ≡ vowelsOf w
+  unfolding vowelsPart placesOf vowelsOf
+  vowels-at = rw (le-ltb (length w) (vowelsEnd w) (vowels-le w), le-ltb (vowelsEnd w) (onsetEnd w) (onset-first w)) (run-long w)
+
+  pub coda-at : codaPart w (placesOf w) ≡ codaOf w
+  unfolding codaPart placesOf codaOf
+  coda-at = rw (le-ltb (length w) (vowelsEnd w) (vowels-le w))

@@ -1,0 +1,172 @@
+-- The verdict on a word of small letters without tones, from what the calls in it answer.
+use Prim.Native.Nat.{ℕ, suc, _+_, _-_, _≤_, _<_}
+use mathlib.Core.Path.{_≡_, refl, sym, ap, ap₂, _∙_}
+use mathlib.Core.Bool.{Bool, true, false, not}
+use mathlib.Core.List.{List, [], _∷_}
+use native.Mathlib.Omega.{arith}
+use lib.Dec.{T, eqb}
+use lib.ListN.{length, take, drop, length-drop}
+use borrow.Author.Tests.{eqb-true, eqb-false}
+use Rattle.p0_choice.specs.Choice.{pick}
+use Rattle.p4_rows.specs.declared.Rows.{Rows}
+use Rattle.p4_rows.specs.Rows.{Word, onsetRows, vowelRows, codaRows, onsetToVowels, vowelsToCoda}
+use Rattle.p4_rows.specs.Lookup.{rowsOf, isEmpty, listed, allowsAny, goTogether}
+use Rattle.p4_rows.specs.Keys.{spread, shown}
+use Rattle.p4_rows.proofs.Spread.{onset-shown, vowels-shown, coda-shown, rows-none, rows-some}
+use Rattle.p4_spelling.specs.declared.Places.{Places}
+use Rattle.p4_spelling.specs.Cut.{vowelRun, onsetEnd, vowelsEnd, onsetOf, vowelsOf, codaOf}
+use Rattle.p4_spelling.specs.Verdict.{listedIfAny, onsetFits, codaFits, partsFit, fits}
+use Rattle.p4_spelling.specs.Answers.{placesOf}
+use Rattle.p4_spelling.proofs.Parts.{run-empty}
+use Rattle.p4_spelling.proofs.Scans.{onset-le, vowels-le, onset-first, from-start, whole-rest}
+
+-- ---- onset and coda
+module _ (w : Word) (rows : List ℕ) where
+  pub no-onset : length w ≡ 0 → true ≡ onsetFits w rows
+  unfolding onsetFits
+  no-onset h = go w h
+    where
+      go : (u : Word) → length u ≡ 0 → true ≡ onsetFits u rows
+      go [] q = refl
+      go (x ∷ u) q = absurd (omega arith)
+
+  pub some-onset : (o : Rows) (r : Bool) → (length w ≡ 0 → ⊥) → o ≡ spread (rowsOf onsetRows w) → r ≡ goTogether onsetToVowels (shown o) rows → r ≡ onsetFits w rows
+  unfolding onsetFits
+  some-onset o r h e q = q ∙ ap (λ (is : List ℕ). goTogether onsetToVowels is rows) (onset-shown w o e) ∙ go w h
+    where
+      go : (u : Word) → (length u ≡ 0 → ⊥) → goTogether onsetToVowels (rowsOf onsetRows u) rows ≡ onsetFits u rows
+      go [] n = absurd (n refl)
+      go (x ∷ u) n = refl
+
+  pub no-coda-rows : length w ≡ 0 → true ≡ codaFits rows w
+  unfolding codaFits
+  no-coda-rows h = go w h
+    where
+      go : (u : Word) → length u ≡ 0 → true ≡ codaFits rows u
+      go [] q = refl
+      go (x ∷ u) q = absurd (omega arith)
+
+  pub some-coda : (c : Rows) (r : Bool) → (length w ≡ 0 → ⊥) → c ≡ spread (rowsOf codaRows w) → r ≡ goTogether vowelsToCoda rows (shown c) → r ≡ codaFits rows w
+  unfolding codaFits
+  some-coda c r h e q = q ∙ ap (λ (js : List ℕ). goTogether vowelsToCoda rows js) (coda-shown w c e) ∙ go w h
+    where
+      go : (u : Word) → (length u ≡ 0 → ⊥) → goTogether vowelsToCoda rows (rowsOf codaRows u) ≡ codaFits rows u
+      go [] n = absurd (n refl)
+      go (x ∷ u) n = refl
+
+-- ---- a part that is not listed goes with none
+unlisted-onset : (w : Word) (rows : List ℕ) → listedIfAny onsetRows w ≡ false → onsetFits w rows ≡ false
+unfolding listedIfAny listed onsetFits goTogether
+unlisted-onset [] rows e = e
+unlisted-onset (x ∷ w) rows e = go (rowsOf onsetRows (x ∷ w)) e
+  where
+    go : (l : List ℕ) → pick (isEmpty l) false true ≡ false → goTogether onsetToVowels l rows ≡ false
+    go [] q = refl
+    go (i ∷ l) q = let z : _≡_ {A = ℕ} 0 1 = cc in absurd (omega arith)
+
+none-with : (m : List (List ℕ)) (is : List ℕ) → goTogether m is [] ≡ false
+unfolding goTogether allowsAny
+none-with m [] = refl
+none-with m (i ∷ is) = none-with m is
+
+unlisted-coda : (w : Word) (rows : List ℕ) → listedIfAny codaRows w ≡ false → codaFits rows w ≡ false
+unfolding listedIfAny listed codaFits
+unlisted-coda [] rows e = e
+unlisted-coda (x ∷ w) rows e = go (rowsOf codaRows (x ∷ w)) e
+  where
+    go : (l : List ℕ) → pick (isEmpty l) false true ≡ false → goTogether vowelsToCoda rows l ≡ false
+    go [] q = none-with vowelsToCoda rows
+    go (i ∷ l) q = let z : _≡_ {A = ℕ} 0 1 = cc in absurd (omega arith)
+
+shorter : (a l c f g : Bool) → (a ≡ false → f ≡ false) → (c ≡ false → g ≡ false)
+    → pick a (pick l (pick c (pick f g false) false) false) false ≡ pick l (pick f g false) false
+shorter true true true f g p q = refl
+shorter true true false true g p q = sym (q refl)
+shorter true true false false g p q = refl
+shorter true false c f g p q = refl
+shorter false true c f g p q = rw (p refl)
+shorter false false c f g p q = refl
+
+parts-shorter : (o v c : Word)
+    → partsFit o v c ≡ pick (listed vowelRows v) (pick (onsetFits o (rowsOf vowelRows v)) (codaFits (rowsOf vowelRows v) c) false) false
+unfolding partsFit
+parts-shorter o v c =
+    shorter (listedIfAny onsetRows o) (listed vowelRows v) (listedIfAny codaRows c) (onsetFits o (rowsOf vowelRows v)) (codaFits (rowsOf vowelRows v) c)
+    (unlisted-onset o (rowsOf vowelRows v)) (unlisted-coda c (rowsOf vowelRows v))
+
+-- ---- the whole
+by-count : (l : List ℕ) (o : Rows) → o ≡ spread l → not (eqb (o .count) 0) ≡ pick (isEmpty l) false true
+by-count l o e = go (eqb (o .count) 0) refl
+  where
+    go : (b : Bool) → eqb (o .count) 0 ≡ b → not b ≡ pick (isEmpty l) false true
+    go true q = rw (rows-none l o e (eqb-true (o .count) 0 q))
+    go false q = rw (rows-some l o e (eqb-false (o .count) 0 q))
+
+module _ (w : Word) (p : Places) (e : p ≡ placesOf w) where
+  at-onset : p .onset ≡ onsetEnd w
+  unfolding placesOf
+  at-onset = ap (λ (q : Places). q .onset) e
+
+  at-vowels : p .vowels ≡ vowelsEnd w
+  unfolding placesOf
+  at-vowels = ap (λ (q : Places). q .vowels) e
+
+  onset-is : take (p .onset - 0) w ≡ onsetOf w
+  unfolding onsetOf
+  onset-is = from-start w (p .onset) ∙ rw at-onset
+
+  vowels-are : take (p .vowels - p .onset) (drop (p .onset) w) ≡ vowelsOf w
+  unfolding vowelsOf vowelsEnd
+  vowels-are =
+      let n : p .vowels - p .onset ≡ vowelRun (drop (onsetEnd w) w) = omega (arith, at-onset, at-vowels) in
+      rw (n, at-onset)
+
+  coda-is : take (length w - p .vowels) (drop (p .vowels) w) ≡ codaOf w
+  unfolding codaOf
+  coda-is = whole-rest w (p .vowels) (omega (arith, at-vowels, vowels-le w)) ∙ rw at-vowels
+
+  no-vowels : p .onset ≡ p .vowels → isEmpty (vowelsOf w) ≡ true
+  unfolding vowelsOf vowelsEnd
+  no-vowels h = let n : vowelRun (drop (onsetEnd w) w) ≡ 0 = omega (arith, at-onset, at-vowels) in rw n
+
+  none-run : T (isEmpty (vowelsOf w)) → p .onset ≡ p .vowels
+  unfolding vowelsOf vowelsEnd
+  none-run t = omega (arith, run-empty (drop (onsetEnd w) w) t, at-onset, at-vowels)
+
+  some-vowels : (p .onset ≡ p .vowels → ⊥) → isEmpty (vowelsOf w) ≡ false
+  some-vowels h = go (isEmpty (vowelsOf w)) refl
+    where
+      go : (b : Bool) → isEmpty (vowelsOf w) ≡ b → b ≡ false
+      go true q = absurd (h (none-run (rw q tt)))
+      go false q = refl
+
+  pub bare-onset : (o : Rows) (r : Bool) → p .onset ≡ p .vowels → o ≡ spread (rowsOf onsetRows (take (p .onset - 0) w)) → r ≡ not (eqb (o .count) 0) → r ≡ fits w
+  unfolding fits listed
+  bare-onset o r h q f = f ∙ rw (no-vowels h) (by-count (rowsOf onsetRows (onsetOf w)) o (q ∙ ap (λ (u : Word). spread (rowsOf onsetRows u)) onset-is))
+
+  -- the vowels' rows are v's
+  module _ (v : Rows) (h : p .onset ≡ p .vowels → ⊥) (q : v ≡ spread (rowsOf vowelRows (take (p .vowels - p .onset) (drop (p .onset) w)))) where
+    rows-are : v ≡ spread (rowsOf vowelRows (vowelsOf w))
+    rows-are = q ∙ ap (λ (u : Word). spread (rowsOf vowelRows u)) vowels-are
+
+    whole : fits w ≡ pick (listed vowelRows (vowelsOf w)) (pick (onsetFits (onsetOf w) (rowsOf vowelRows (vowelsOf w))) (codaFits (rowsOf vowelRows (vowelsOf w)) (codaOf w)) false) false
+    unfolding fits
+    whole = rw (some-vowels h) (parts-shorter (onsetOf w) (vowelsOf w) (codaOf w))
+
+    pub vowels-unlisted : v .count ≡ 0 → false ≡ fits w
+    unfolding listed
+    vowels-unlisted c = sym (whole ∙ rw (rows-none (rowsOf vowelRows (vowelsOf w)) v rows-are c))
+
+    module _ (c : v .count ≡ 0 → ⊥) (f : Bool) (k : f ≡ onsetFits (take (p .onset - 0) w) (shown v)) where
+      onset-says : onsetFits (onsetOf w) (rowsOf vowelRows (vowelsOf w)) ≡ f
+      onset-says = sym (k ∙ ap₂ onsetFits onset-is (vowels-shown (vowelsOf w) v rows-are))
+
+      pub onset-unfit : f ≡ false → false ≡ fits w
+      unfolding listed
+      onset-unfit n = sym (whole ∙ rw (rows-some (rowsOf vowelRows (vowelsOf w)) v rows-are c, onset-says, n))
+
+      pub coda-decides : (r : Bool) → f ≡ true → r ≡ codaFits (shown v) (take (length w - p .vowels) (drop (p .vowels) w)) → r ≡ fits w
+      unfolding listed
+      coda-decides r n d =
+          d ∙ ap₂ codaFits (vowels-shown (vowelsOf w) v rows-are) coda-is
+          ∙ sym (whole ∙ rw (rows-some (rowsOf vowelRows (vowelsOf w)) v rows-are c, onset-says, n))

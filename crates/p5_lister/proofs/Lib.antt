@@ -1,0 +1,5 @@
+pub mod Walk
+pub mod Spell
+pub mod Copy
+pub mod Answers
+pub mod Meaning

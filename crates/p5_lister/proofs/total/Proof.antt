@@ -1,0 +1,6 @@
+use Rattle.p5_lister.proofs.Answers.{total-is}
+use Rattle.p5_lister.proofs.total.Statement.{statement}
+use Rattle.p5_lister.proofs.total.Tie as tie
+
+pub total-spec : {M : Type 1} → statement M
+total-spec = tie.close (tie.spec (λ c. total-is))

@@ -1,0 +1,159 @@
+// The lister (document 01, port order 5): the listed words by number, and the one that follows a word. Both go down the
+// table of shared cells of `p5_listing`, from the last cell to lower ones: cell 0 is none.
+mod cells;
+
+use p0_refusals::Answer;
+use p0_refusals::Refusal;
+use p1_letters as letters;
+ghost use mathlib.Core.Path.{_≡_};
+ghost use mathlib.Core.List.{_++_};
+ghost use Prim.Native.Nat.{_≤_, _<_};
+ghost use lib.ListN.{length, take, drop};
+ghost use Rattle.p5_trie.specs.Trie.{size, nth, upTo};
+ghost use Rattle.p5_listing.specs.Cells.{listing};
+ghost use Rattle.p0_refusals.specs.Answers.{answer, output};
+ghost use Rattle.p5_lister.specs.Outcomes.{numbered, following};
+
+// How many words are listed.
+const TOTAL: usize = 5963;
+
+// A word of at most eight letters: the first `len`.
+struct Spelled {
+    len: usize,
+    letters: [u32; 8],
+}
+
+fn wide8(x: u8) -> usize
+    ensures { λ r. ⌜ r ≡ x ⌝ }
+{
+    x as usize
+}
+
+fn wide16(x: u16) -> usize
+    ensures { λ r. ⌜ r ≡ x ⌝ }
+{
+    x as usize
+}
+
+fn letter(x: u16) -> u32
+    ensures { λ r. ⌜ r ≡ x ⌝ }
+{
+    x as u32
+}
+
+// How many listed words are at most the word.
+pub fn up_to(word: &[u32]) -> usize
+    ensures { λ r. ⌜ r ≡ upTo listing (now (word .entry)) ⌝ }
+{
+    let letters = cells::LETTERS;
+    let stops = cells::STOPS;
+    let downs = cells::DOWNS;
+    let nexts = cells::NEXTS;
+    let weights = cells::WEIGHTS;
+    let mut cell: usize = 210;
+    let mut count: usize = 0;
+    let mut i: usize = 0;
+    while cell != 0 {
+        if i == word.len() {
+            return count;
+        }
+        let x = letter(letters[cell]);
+        let y = word[i];
+        if y < x {
+            return count;
+        }
+        if x == y {
+            count += wide8(stops[cell]);
+            cell = wide8(downs[cell]);
+            i += 1;
+        } else {
+            count += wide16(weights[cell]);
+            cell = wide8(nexts[cell]);
+        }
+    }
+    count
+}
+
+// The word of number n.
+fn word_at(n: usize) -> Spelled
+    requires { ⌜ n < 5963 ⌝ }
+    ensures { λ r. ⌜ (r .len ≤ 8) × (take (r .len) (r .letters) ≡ nth listing n) ⌝ }
+{
+    let letters = cells::LETTERS;
+    let stops = cells::STOPS;
+    let downs = cells::DOWNS;
+    let nexts = cells::NEXTS;
+    let weights = cells::WEIGHTS;
+    let mut out = [0u32; 8];
+    let mut len: usize = 0;
+    let mut cell: usize = 210;
+    let mut left = n;
+    while cell != 0 {
+        let through = wide16(weights[cell]);
+        if left < through {
+            out[len] = letter(letters[cell]);
+            len += 1;
+            let ends = wide8(stops[cell]);
+            if left < ends {
+                return Spelled { len, letters: out };
+            }
+            left -= ends;
+            cell = wide8(downs[cell]);
+        } else {
+            left -= through;
+            cell = wide8(nexts[cell]);
+        }
+    }
+    Spelled { len, letters: out }
+}
+
+// Writes the first n letters to the start of the output.
+fn put(letters: [u32; 8], n: usize, out: &mut [u32])
+    requires { ⌜ (n ≤ 8) × (n ≤ length (now out)) ⌝ }
+    ensures { λ r. ⌜ now (out .exit) ≡ take n letters ++ drop n (now (out .entry)) ⌝ }
+{
+    let mut i: usize = 0;
+    while i < n {
+        out[i] = letters[i];
+        i += 1;
+    }
+}
+
+// How many words are listed: the numbers below this name them.
+pub fn total() -> usize
+    ensures { λ r. ⌜ r ≡ size listing ⌝ }
+{
+    TOTAL
+}
+
+// The listed word of number n, from 0.
+pub fn word_number(n: usize, out: &mut [u32]) -> Answer
+    ensures { λ r. ⌜ r ≡ answer (numbered n) (length (now (out .entry))) ⌝ }
+    ensures { λ r. ⌜ now (out .exit) ≡ output (numbered n) (now (out .entry)) ⌝ }
+{
+    if TOTAL <= n {
+        return Answer::Refused(Refusal::NoWord);
+    }
+    let word = word_at(n);
+    let len = word.len;
+    let letters = word.letters;
+    if out.len() < len {
+        return Answer::Refused(Refusal::Short);
+    }
+    put(letters, len, out);
+    Answer::Done(len)
+}
+
+// The first listed word after a permitted word, which need not be listed.
+pub fn next_word(word: &[u32], out: &mut [u32]) -> Answer
+    ensures { λ r. ⌜ r ≡ answer (following (now (word .entry))) (length (now (out .entry))) ⌝ }
+    ensures { λ r. ⌜ now (out .exit) ≡ output (following (now (word .entry))) (now (out .entry)) ⌝ }
+{
+    if 64 < word.len() {
+        return Answer::Refused(Refusal::Long);
+    }
+    if !letters::all_letters(word) {
+        return Answer::Refused(Refusal::Foreign);
+    }
+    word_number(up_to(word), out)
+}

@@ -1,0 +1,7 @@
+pub mod Plain
+pub mod Quick
+pub mod Computed
+pub mod Complete
+pub mod Cells
+pub mod Numbering
+pub mod Unique
