@@ -29,7 +29,38 @@ pub const GUARD_COUNT: usize = 0xa5a5a5a5;
 /// Guarded places on each side of a lent output.
 const MARGIN: usize = 4;
 
-/// The number that a call returns, and all that it leaves in what was lent.
+/// The number that a call returns, and what it leaves in the one number lent to it.
+#[derive(PartialEq)]
+pub struct Place {
+    refusal: u32,
+    value: u32,
+}
+
+impl Place {
+    /// What a call must leave: its answer, or after a refusal what stood there.
+    pub fn by(answer: Result<u32, u32>) -> Place {
+        let (refusal, value) = answer.map_or_else(|refusal| (refusal, GUARD), |value| (0, value));
+        Place { refusal, value }
+    }
+
+    pub fn of(call: impl FnOnce(*mut u32) -> u32) -> Place {
+        let mut value = GUARD;
+        let refusal = call(&mut value);
+        Place { refusal, value }
+    }
+}
+
+/// In hexadecimal; `-` is a place that keeps its value.
+impl Debug for Place {
+    fn fmt(&self, f: &mut Formatter) -> std::fmt::Result {
+        match self.value {
+            GUARD => write!(f, "returns {}, place -", self.refusal),
+            value => write!(f, "returns {}, place {value:02X}", self.refusal),
+        }
+    }
+}
+
+/// The number that a call returns, and all that it leaves in a lent output.
 #[derive(PartialEq)]
 pub struct Left<T> {
     refusal: u32,

@@ -1,6 +1,6 @@
 //! Letters: every call on every code point, on numbers that are none, and on all pairs of letter and tone.
 
-use crate::calls::{host, GUARD};
+use crate::calls::{host, Place};
 use crate::fixed::{code, yes_no};
 use crate::oracle::{self, alphabet, TONE_KEYS};
 use crate::report::Run;
@@ -20,11 +20,6 @@ const LETTER_TO_YES: [OneLetter; 4] = [
     ("is_speller_vowel", host::pasdrongel_is_speller_vowel, oracle::is_speller_vowel),
 ];
 
-/// The number returned, and what stands in the lent place afterwards.
-fn left(answer: Result<u32, u32>) -> (u32, u32) {
-    answer.map_or_else(|refusal| (refusal, GUARD), |value| (0, value))
-}
-
 pub fn compare(run: &mut Run) {
     let numbers = numbers(run);
 
@@ -38,9 +33,8 @@ pub fn compare(run: &mut Run) {
     for (name, call, oracle) in LETTER_TO_LETTER.into_iter().chain(LETTER_TO_YES) {
         run.begin(&format!("{name}: every code point, and numbers above"));
         for &number in &numbers {
-            let mut out = GUARD;
-            let ours = (unsafe { call(number, &mut out) }, out);
-            run.compare(ours, left(oracle::letter(number).map(oracle)), || vec![number], || code(number));
+            let ours = Place::of(|place| unsafe { call(number, place) });
+            run.compare(ours, Place::by(oracle::letter(number).map(oracle)), || vec![number], || code(number));
         }
     }
 
@@ -61,10 +55,9 @@ pub fn compare(run: &mut Run) {
 }
 
 fn tone_on(run: &mut Run, letter: u32, tone: u32) {
-    let mut out = GUARD;
-    let ours = (unsafe { host::pasdrongel_tone_on(letter, tone, &mut out) }, out);
+    let ours = Place::of(|place| unsafe { host::pasdrongel_tone_on(letter, tone, place) });
     let input = || format!("{} {}", code(letter), code(tone));
-    run.compare(ours, left(oracle::tone_on(letter, tone)), || vec![letter, tone], input);
+    run.compare(ours, Place::by(oracle::tone_on(letter, tone)), || vec![letter, tone], input);
 }
 
 /// Every code point; above them the edges, letters with one high bit more, and random numbers.

@@ -1,25 +1,34 @@
 -- The two vowel tests: one list of vowels, asked of the letter in ASCII lower case, and of the letter with its tone off.
 use Prim.Native.Nat.{ℕ, _+_, _≤_, _<_}
-use mathlib.Core.Path.{_≡_}
+use mathlib.Core.Path.{_≡_, sym}
 use mathlib.Core.Bool.{Bool, true, false}
+use mathlib.Core.List.{List}
 use native.Mathlib.Omega.{arith}
 use lib.Dec.{T, leb}
+use types.Run.{OneOf}
 use borrow.Author.Tests.{leb-true}
 use Rattle.p0_choice.specs.Choice.{pick, among, each, count}
 use Rattle.p0_choice.specs.Text.{word}
 use Rattle.p0_choice.proofs.Choices.{pick-both}
 use Rattle.p0_choice.proofs.Tables.{each-among, each-count}
+use Rattle.p0_choice.proofs.Arms.{among-yes, amongAny, Missed, rest-among}
 use Rattle.p1_letters.specs.Alphabet.{asciiLower, isAsciiCapital}
-use Rattle.p1_letters.specs.Tones.{toneOff}
+use Rattle.p1_letters.specs.Tones.{toneRows, toneOff}
 use Rattle.p1_letters.specs.Vowels.{vowels, isVowel, isSpellingVowel}
+use Rattle.p1_letters.proofs.Tones.{toned, off-none}
 
 pub vowel-by : (x l : ℕ) (r : Bool) → l ≡ asciiLower x → r ≡ among l vowels → r ≡ isVowel x
 unfolding isVowel
 vowel-by x l r e q = rw (← e) q
 
-pub spelling-vowel-by : (x l : ℕ) (r : Bool) → l ≡ toneOff x → r ≡ among l vowels → r ≡ isSpellingVowel x
+-- ---- the speller's: an arm whose keys are all vowels, and the last arm, where every vowel and toned letter is a key
+pub spelling-arm : (ks : List ℕ) (x : ℕ) → OneOf ks x → T (each isSpellingVowel ks) → true ≡ isSpellingVowel x
+spelling-arm ks x h t = sym (each-among isSpellingVowel ks t x (sym (among-yes x ks h)))
+
+pub spelling-rest : (N : Type 0) (kss : List (List ℕ)) (x : ℕ) → Missed N kss x
+    → T (each (λ (r : List ℕ). each (λ (k : ℕ). amongAny k kss) (toned r)) toneRows) → T (each (λ (k : ℕ). amongAny k kss) vowels) → false ≡ isSpellingVowel x
 unfolding isSpellingVowel
-spelling-vowel-by x l r e q = rw (← e) q
+spelling-rest N kss x m t u = rw (← off-none N kss x m t) (rest-among N vowels kss x m u)
 
 -- ---- every vowel of the composer
 low-grows : (x : ℕ) → x ≤ asciiLower x

@@ -14,7 +14,8 @@ use Rattle.p3_cells.specs.declared.Cell.{Cell}
 use Rattle.p3_cells.specs.declared.Composition.{Composition}
 use Rattle.p3_cells.specs.declared.Written.the-variants.{Wrote, Refused}
 use Rattle.p3_cells.proofs.Holding.{count-fits, used-length, used-holding, holding-less}
-use Rattle.p3_calls.specs.Output.{writtenAnswer, outWith, textAnswer, textOut, left, popAnswer, popped, popOut}
+use Rattle.p3_calls.specs.declared.Popped.{Popped}
+use Rattle.p3_calls.specs.Output.{writtenAnswer, outWith, textAnswer, textOut, left, popRefused, popAnswer, popped, popOut}
 
 pub length-text : (xs : List Cell) → length (textOf xs) ≡ length xs
 unfolding textOf
@@ -50,9 +51,9 @@ module _ (c : Composition) (o : List ℕ) (s : Bool) (e : s ≡ isSound c) where
   unfolding popAnswer
   pop-no h = rw (no h) refl
 
-  pub pop-unsound : not s ≡ true → record { comp = c; answer = Refused Unsound } ≡ popped c o
+  pub pop-unsound : (r : Popped) → not s ≡ true → r ≡ popRefused c Unsound → r ≡ popped c o
   unfolding popped
-  pop-unsound h = rw (pop-no h) refl
+  pop-unsound r h q = rw (pop-no h) q
 
   pub pop-unsound-out : not s ≡ true → o ≡ popOut c o
   unfolding popOut
@@ -96,9 +97,9 @@ module _ (c : Composition) (o : List ℕ) (s : Bool) (e : s ≡ isSound c) where
     unfolding popAnswer
     pop-none z = rw (whole, count, eq-eqb (c .count) 0 z) refl
 
-    pub pop-empty : c .count ≡ 0 → record { comp = c; answer = Refused Empty } ≡ popped c o
+    pub pop-empty : (r : Popped) → c .count ≡ 0 → r ≡ popRefused c Empty → r ≡ popped c o
     unfolding popped
-    pop-empty z = rw (pop-none z) refl
+    pop-empty r z q = rw (pop-none z) q
 
     pub pop-empty-out : c .count ≡ 0 → o ≡ popOut c o
     unfolding popOut
@@ -115,9 +116,9 @@ module _ (c : Composition) (o : List ℕ) (s : Bool) (e : s ≡ isSound c) where
     unfolding popAnswer writtenAnswer
     pop-little z l = rw (less z, whole, count, ne-eqb (c .count) 0 z, lt-ltb (length o) (c .count - 1) l) refl
 
-    pub pop-short : (c .count ≡ 0 → ⊥) → length o < c .count - 1 → record { comp = c; answer = Refused Short } ≡ popped c o
+    pub pop-short : (r : Popped) → (c .count ≡ 0 → ⊥) → length o < c .count - 1 → r ≡ popRefused c Short → r ≡ popped c o
     unfolding popped
-    pop-short z l = rw (pop-little z l) refl
+    pop-short r z l q = rw (pop-little z l) q
 
     pub pop-short-out : (c .count ≡ 0 → ⊥) → length o < c .count - 1 → o ≡ popOut c o
     unfolding popOut

@@ -7,14 +7,15 @@ use Rattle.p0_refusals.specs.declared.Refusal.the-variants.{Unsound}
 use Rattle.p3_cells.specs.Cells.{isSound}
 use Rattle.p3_cells.specs.declared.Composition.{Composition}
 use Rattle.p3_cells.specs.declared.Mode.the-variants.{Vietnamese, English}
-use Rattle.p3_calls.specs.Answer.{changed}
+use Rattle.p3_calls.specs.Answer.{refused, changed}
 use Rattle.p3_calls.specs.Settings.{empty, soundAnswer, turned}
-use Rattle.p3_calls.specs.declared.Answer.the-variants.{Done, Refused}
+use Rattle.p3_calls.specs.declared.Answer.the-variants.{Done}
+use Rattle.p3_calls.specs.declared.Changed.{Changed}
 
 module _ (c d : Composition) (s : Bool) (e : s ≡ isSound c) where
-  pub set-unsound : not s ≡ true → record { comp = c; answer = Refused Unsound } ≡ changed (soundAnswer c) c d
+  pub set-unsound : (r : Changed) → not s ≡ true → r ≡ refused c Unsound → r ≡ changed (soundAnswer c) c d
   unfolding changed soundAnswer
-  set-unsound h = rw (← e, not-true s h) refl
+  set-unsound r h q = rw (← e, not-true s h) q
 
   pub set-done : (r : Composition) → not s ≡ false → r ≡ d → record { comp = r; answer = Done } ≡ changed (soundAnswer c) c d
   unfolding changed soundAnswer

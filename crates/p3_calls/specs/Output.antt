@@ -5,6 +5,7 @@ use mathlib.Core.List.{List, _++_}
 use lib.Dec.{eqb, ltb}
 use lib.ListN.{length, take, drop}
 use Rattle.p0_choice.specs.Choice.{pick}
+use Rattle.p0_refusals.specs.declared.Refusal.{Refusal}
 use Rattle.p0_refusals.specs.declared.Refusal.the-variants.{Short, Empty, Unsound}
 use Rattle.p3_cells.specs.Cells.{isSound, used, holding}
 use Rattle.p3_cells.specs.Text.{textOf}
@@ -30,6 +31,9 @@ unfoldable pub textOut : Composition → List ℕ → List ℕ
 textOut c out = unless (textAnswer c (length out)) out (outWith (textOf (used c)) out)
 
 -- ---- removal
+abbrev pub popRefused : Composition → Refusal → Popped
+popRefused c r = record { comp = c; answer = Refused r }
+
 -- "Removing the last cell blanks it."
 unfoldable pub left : Composition → List Cell
 left c = take (length (used c) - 1) (used c)

@@ -2,9 +2,10 @@
 // is not sound; after a refusal the composition and the output are what they were.
 ghost use mathlib.Core.Path.{_≡_};
 ghost use lib.ListN.{length};
+ghost use Rattle.p3_calls.specs.Answer.{refused};
 ghost use Rattle.p3_calls.specs.Settings.{empty as emptyOf, created, resetTo, methodSet, enabledSet};
 ghost use Rattle.p3_calls.specs.Literal.{literal};
-ghost use Rattle.p3_calls.specs.Output.{textAnswer, textOut, popped, popOut};
+ghost use Rattle.p3_calls.specs.Output.{textAnswer, textOut, popRefused, popped, popOut};
 use p0_refusals::Refusal;
 use p1_letters as letters;
 use p2_input_method::InputMethod;
@@ -30,6 +31,15 @@ pub struct Popped {
     pub answer: Written,
 }
 
+fn refuse(c: Composition, why: Refusal) -> Changed
+    ensures { λ r. ⌜ r ≡ refused c why ⌝ }
+{
+    Changed {
+        comp: c,
+        answer: Answer::Refused(why),
+    }
+}
+
 fn empty(method: InputMethod, mode: Mode) -> Composition
     ensures { λ r. ⌜ r ≡ emptyOf method mode ⌝ }
 {
@@ -53,10 +63,7 @@ pub fn reset(c: Composition) -> Changed
     ensures { λ r. ⌜ r ≡ resetTo c ⌝ }
 {
     if !cells::sound(c) {
-        return Changed {
-            comp: c,
-            answer: Answer::Refused(Refusal::Unsound),
-        };
+        return refuse(c, Refusal::Unsound);
     }
     let m = c.method;
     let mode = c.mode;
@@ -71,10 +78,7 @@ pub fn set_method(c: Composition, method: InputMethod) -> Changed
     ensures { λ r. ⌜ r ≡ methodSet c method ⌝ }
 {
     if !cells::sound(c) {
-        return Changed {
-            comp: c,
-            answer: Answer::Refused(Refusal::Unsound),
-        };
+        return refuse(c, Refusal::Unsound);
     }
     let mode = c.mode;
     let d = empty(method, mode);
@@ -89,10 +93,7 @@ pub fn set_enabled(c: Composition, enabled: bool) -> Changed
     ensures { λ r. ⌜ r ≡ enabledSet c enabled ⌝ }
 {
     if !cells::sound(c) {
-        return Changed {
-            comp: c,
-            answer: Answer::Refused(Refusal::Unsound),
-        };
+        return refuse(c, Refusal::Unsound);
     }
     let m = c.method;
     if !enabled {
@@ -120,23 +121,14 @@ pub fn append_literal(mut c: Composition, ch: u32) -> Changed
     ensures { λ r. ⌜ r ≡ literal c ch ⌝ }
 {
     if !cells::sound(c) {
-        return Changed {
-            comp: c,
-            answer: Answer::Refused(Refusal::Unsound),
-        };
+        return refuse(c, Refusal::Unsound);
     }
     if !letters::in_alphabet(ch) {
-        return Changed {
-            comp: c,
-            answer: Answer::Refused(Refusal::Foreign),
-        };
+        return refuse(c, Refusal::Foreign);
     }
     let n = c.count;
     if LIMIT <= n {
-        return Changed {
-            comp: c,
-            answer: Answer::Refused(Refusal::Full),
-        };
+        return refuse(c, Refusal::Full);
     }
     let x = cells::typed(ch);
     c.cells[n] = x;
@@ -160,28 +152,28 @@ pub fn get_output(c: Composition, out: &mut [u32]) -> Written
     Written::Wrote(n)
 }
 
+fn refuse_pop(c: Composition, why: Refusal) -> Popped
+    ensures { λ r. ⌜ r ≡ popRefused c why ⌝ }
+{
+    Popped {
+        comp: c,
+        answer: Written::Refused(why),
+    }
+}
+
 pub fn pop_last(mut c: Composition, out: &mut [u32]) -> Popped
     ensures { λ r. ⌜ (r ≡ popped c (now (out .entry))) × (now (out .exit) ≡ popOut c (now (out .entry))) ⌝ }
 {
     if !cells::sound(c) {
-        return Popped {
-            comp: c,
-            answer: Written::Refused(Refusal::Unsound),
-        };
+        return refuse_pop(c, Refusal::Unsound);
     }
     let n = c.count;
     if n == 0 {
-        return Popped {
-            comp: c,
-            answer: Written::Refused(Refusal::Empty),
-        };
+        return refuse_pop(c, Refusal::Empty);
     }
     let m = n - 1;
     if out.len() < m {
-        return Popped {
-            comp: c,
-            answer: Written::Refused(Refusal::Short),
-        };
+        return refuse_pop(c, Refusal::Short);
     }
     let z = cells::blank();
     c.cells[m] = z;

@@ -1,6 +1,7 @@
 -- The answers, from what the calls in them answer; at the places of the cut the parts are onset, vowels and coda.
-use Prim.Native.Nat.{ℕ, _+_, _-_}
-use mathlib.Core.Path.{_≡_, refl, ap, _∙_}
+use Prim.Native.Nat.{ℕ, _+_, _-_, _≤_}
+use mathlib.Core.Path.{_≡_, refl, sym, ap, _∙_}
+use mathlib.Core.Bool.{Bool, true}
 use mathlib.Core.List.{List, []}
 use native.Mathlib.Omega.{arith}
 use lib.ListN.{length, take, drop}
@@ -8,8 +9,11 @@ use borrow.Author.Tests.{le-ltb}
 use Rattle.p4_rows.specs.Rows.{Word}
 use Rattle.p4_spelling.specs.declared.Places.{Places}
 use Rattle.p4_spelling.specs.declared.Cut.the-variants.{At}
+use Rattle.p4_spelling.specs.declared.Verdict.the-variants.{Yes}
 use Rattle.p4_spelling.specs.Cut.{vowelRun, onsetEnd, vowelsEnd, onsetOf, vowelsOf, codaOf}
-use Rattle.p4_spelling.specs.Answers.{placesOf, onsetPart, vowelsPart, codaPart}
+use Rattle.p4_spelling.specs.Verdict.{verdict}
+use Rattle.p4_spelling.specs.Answers.{permitted, placesOf, verdictAnswer, onsetPart, vowelsPart, codaPart}
+use Rattle.p4_spelling.proofs.Letters.{accepted-letters}
 use Rattle.p4_spelling.proofs.Scans.{onset-le, vowels-le, onset-first}
 
 pub cut-at-is : (p q : Places) → p ≡ q → At p ≡ At q
@@ -18,6 +22,11 @@ cut-at-is p q e = ap At e
 run-long : (w : Word) → take (vowelsEnd w - onsetEnd w) (drop (onsetEnd w) w) ≡ take (vowelRun (drop (onsetEnd w) w)) (drop (onsetEnd w) w)
 unfolding vowelsEnd
 run-long w = let e : onsetEnd w + vowelRun (drop (onsetEnd w) w) - onsetEnd w ≡ vowelRun (drop (onsetEnd w) w) = omega arith in rw e
+
+-- an accepted word is permitted but for its length
+pub says-yes : (w : Word) (r : Bool) → length w ≤ 64 → r ≡ verdict w → r ≡ true → Yes ≡ verdictAnswer w
+unfolding verdictAnswer permitted
+says-yes w r l e t = let v : verdict w ≡ true = sym e ∙ t in rw (le-ltb 64 (length w) l, accepted-letters w v, v)
 
 module _ (w : Word) where
   pub onset-at : onsetPart w (placesOf w) ≡ onsetOf w

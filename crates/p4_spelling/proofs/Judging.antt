@@ -1,12 +1,12 @@
 -- The verdict on a word of small letters without tones, from what the calls in it answer.
-use Prim.Native.Nat.{ℕ, suc, _+_, _-_, _≤_, _<_}
+use Prim.Native.Nat.{ℕ, zero, suc, _+_, _-_, _≤_, _<_}
 use mathlib.Core.Path.{_≡_, refl, sym, ap, ap₂, _∙_}
 use mathlib.Core.Bool.{Bool, true, false, not}
 use mathlib.Core.List.{List, [], _∷_}
 use native.Mathlib.Omega.{arith}
 use lib.Dec.{T, eqb}
 use lib.ListN.{length, take, drop, length-drop}
-use borrow.Author.Tests.{eqb-true, eqb-false}
+use borrow.Author.Tests.{eqb-true, eqb-false, ne-eqb}
 use Rattle.p0_choice.specs.Choice.{pick}
 use Rattle.p4_rows.specs.declared.Rows.{Rows}
 use Rattle.p4_rows.specs.Rows.{Word, onsetRows, vowelRows, codaRows, onsetToVowels, vowelsToCoda}
@@ -21,23 +21,12 @@ use Rattle.p4_spelling.proofs.Parts.{run-empty}
 use Rattle.p4_spelling.proofs.Scans.{onset-le, vowels-le, onset-first, from-start, whole-rest}
 
 -- ---- onset and coda
+none-taken : (n : ℕ) (w : Word) → n ≤ length w → isEmpty (take n w) ≡ eqb n 0
+none-taken zero w h = refl
+none-taken (suc n) [] h = absurd (omega arith)
+none-taken (suc n) (x ∷ w) h = sym (ne-eqb (suc n) 0 (λ (e : suc n ≡ 0). omega arith))
+
 module _ (w : Word) (rows : List ℕ) where
-  pub no-onset : length w ≡ 0 → true ≡ onsetFits w rows
-  unfolding onsetFits
-  no-onset h = go w h
-    where
-      go : (u : Word) → length u ≡ 0 → true ≡ onsetFits u rows
-      go [] q = refl
-      go (x ∷ u) q = absurd (omega arith)
-
-  pub some-onset : (o : Rows) (r : Bool) → (length w ≡ 0 → ⊥) → o ≡ spread (rowsOf onsetRows w) → r ≡ goTogether onsetToVowels (shown o) rows → r ≡ onsetFits w rows
-  unfolding onsetFits
-  some-onset o r h e q = q ∙ ap (λ (is : List ℕ). goTogether onsetToVowels is rows) (onset-shown w o e) ∙ go w h
-    where
-      go : (u : Word) → (length u ≡ 0 → ⊥) → goTogether onsetToVowels (rowsOf onsetRows u) rows ≡ onsetFits u rows
-      go [] n = absurd (n refl)
-      go (x ∷ u) n = refl
-
   pub no-coda-rows : length w ≡ 0 → true ≡ codaFits rows w
   unfolding codaFits
   no-coda-rows h = go w h
@@ -115,6 +104,10 @@ module _ (w : Word) (p : Places) (e : p ≡ placesOf w) where
   unfolding onsetOf
   onset-is = from-start w (p .onset) ∙ rw at-onset
 
+  no-letters : isEmpty (onsetOf w) ≡ eqb (p .onset) 0
+  unfolding onsetOf
+  no-letters = rw at-onset (none-taken (onsetEnd w) w (onset-le w))
+
   vowels-are : take (p .vowels - p .onset) (drop (p .onset) w) ≡ vowelsOf w
   unfolding vowelsOf vowelsEnd
   vowels-are =
@@ -157,9 +150,14 @@ module _ (w : Word) (p : Places) (e : p ≡ placesOf w) where
     unfolding listed
     vowels-unlisted c = sym (whole ∙ rw (rows-none (rowsOf vowelRows (vowelsOf w)) v rows-are c))
 
-    module _ (c : v .count ≡ 0 → ⊥) (f : Bool) (k : f ≡ onsetFits (take (p .onset - 0) w) (shown v)) where
+    module _ (c : v .count ≡ 0 → ⊥) (o : Rows) (d : o ≡ spread (rowsOf onsetRows (take (p .onset - 0) w))) (f : Bool)
+        (k : f ≡ pick (eqb (p .onset) 0) true (goTogether onsetToVowels (shown o) (shown v))) where
+      onset-rows : shown o ≡ rowsOf onsetRows (onsetOf w)
+      onset-rows = onset-shown (onsetOf w) o (d ∙ ap (λ (u : Word). spread (rowsOf onsetRows u)) onset-is)
+
       onset-says : onsetFits (onsetOf w) (rowsOf vowelRows (vowelsOf w)) ≡ f
-      onset-says = sym (k ∙ ap₂ onsetFits onset-is (vowels-shown (vowelsOf w) v rows-are))
+      unfolding onsetFits
+      onset-says = rw no-letters (sym (k ∙ rw (onset-rows, vowels-shown (vowelsOf w) v rows-are)))
 
       pub onset-unfit : f ≡ false → false ≡ fits w
       unfolding listed

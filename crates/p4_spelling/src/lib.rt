@@ -7,11 +7,15 @@ use p4_rows::Rows;
 ghost use mathlib.Core.Path.{_≡_};
 ghost use Prim.Native.Nat.{_≤_};
 ghost use lib.ListN.{length};
-ghost use Rattle.p0_choice.specs.Choice.{among};
+ghost use mathlib.Core.Bool.{true};
+ghost use lib.Dec.{eqb};
+ghost use Rattle.p0_choice.specs.Choice.{pick, among};
 ghost use Rattle.p0_choice.specs.Text.{word as lettersOf};
+ghost use Rattle.p4_rows.specs.Rows.{onsetToVowels};
+ghost use Rattle.p4_rows.specs.Lookup.{goTogether};
 ghost use Rattle.p4_rows.specs.Keys.{shown, Below};
 ghost use Rattle.p4_spelling.specs.Cut.{beforeVowel, vowelRun, isGlue, onsetEnd};
-ghost use Rattle.p4_spelling.specs.Verdict.{onsetFits, codaFits, fits as fitting, verdict};
+ghost use Rattle.p4_spelling.specs.Verdict.{codaFits, fits as fitting, verdict};
 ghost use Rattle.p4_spelling.specs.Answers.{placesOf, onsetPart, vowelsPart, codaPart, cutAnswer, verdictAnswer};
 
 // Where a word is cut: its onset ends before `onset`, its vowels end before `vowels`.
@@ -159,16 +163,16 @@ fn is_foreign(x: u32) -> bool
     }
 }
 
-// The onset stands in a row that goes with one of the vowels' rows, or is empty. One that stands in no row is not listed,
-// and goes with none.
-fn onset_fits(onset: &[u32], vowels: Rows) -> bool
-    requires { ⌜ Below 8 vowels ⌝ }
-    ensures { λ r. ⌜ r ≡ onsetFits (now (onset .entry)) (shown vowels) ⌝ }
+// One of the onset's rows goes with one of the vowels', or the onset has no letters. An onset without rows is not
+// listed, and goes with none.
+fn onset_fits(letters: usize, onset: Rows, vowels: Rows) -> bool
+    requires { ⌜ Below 5 onset × Below 8 vowels ⌝ }
+    ensures { λ r. ⌜ r ≡ pick (eqb letters 0) true (goTogether onsetToVowels (shown onset) (shown vowels)) ⌝ }
 {
-    if onset.len() == 0 {
+    if letters == 0 {
         return true;
     }
-    rows::cv_valid(rows::lookup_onset(onset), vowels)
+    rows::cv_valid(onset, vowels)
 }
 
 // The same of the coda, whose search is its own: another row of the vowels may answer it.
@@ -189,15 +193,15 @@ fn fits(word: &[u32]) -> bool
     let at = cut_at(word);
     let a = at.onset;
     let b = at.vowels;
-    let onset = &word[0..a];
+    let onset = rows::lookup_onset(&word[0..a]);
     if a == b {
-        return rows::lookup_onset(onset).count != 0;
+        return onset.count != 0;
     }
     let vowels = rows::lookup_vowels(&word[a..b]);
     if vowels.count == 0 {
         return false;
     }
-    if !onset_fits(onset, vowels) {
+    if !onset_fits(a, onset, vowels) {
         return false;
     }
     coda_fits(vowels, &word[b..])
@@ -224,18 +228,18 @@ pub fn accepts(word: &[u32]) -> bool
     fits(&plain[0..n])
 }
 
-// The verdict on a permitted word.
+// The verdict on a permitted word. An accepted word has letters of the alphabet alone, so only the others are asked.
 pub fn is_valid_vietnamese_syllable(word: &[u32]) -> Verdict
     ensures { λ r. ⌜ r ≡ verdictAnswer (now (word .entry)) ⌝ }
 {
     if 64 < word.len() {
         return Verdict::Refused(Refusal::Long);
     }
-    if !letters::all_letters(word) {
-        return Verdict::Refused(Refusal::Foreign);
-    }
     if accepts(word) {
         return Verdict::Yes;
+    }
+    if !letters::all_letters(word) {
+        return Verdict::Refused(Refusal::Foreign);
     }
     Verdict::No
 }

@@ -15,7 +15,7 @@ use Rattle.p1_letters.specs.Tones.{toneOff, offIn, toneRows}
 use Rattle.p5_trie.specs.Trie.{Trie, none, cell, one, size}
 use Rattle.p5_trie.proofs.Words.{Letters}
 use Rattle.p5_listing.specs.Cells.{letters, stops, downs, nexts, weights, grow, trieAt, listing}
-use Rattle.p5_listing.proofs.Plain.{plainLetter}
+use Rattle.p4_spelling.proofs.Letters.{plainLetter}
 
 abbrev pub letterAt : ℕ → ℕ
 letterAt e = getD letters e 0

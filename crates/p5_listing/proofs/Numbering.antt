@@ -16,7 +16,8 @@ use Rattle.p5_trie.proofs.Order.{below-or-not, not-after}
 use Rattle.p5_trie.proofs.Words.{Sorted, Numbered, sorted, cuts, upTo-nth, numbered, every-nth, letters-nth}
 use Rattle.p5_listing.specs.Listed.{plain, Listed, Found, Numbering, Follows, Last}
 use Rattle.p5_listing.specs.Cells.{listing}
-use Rattle.p5_listing.proofs.Plain.{plainLetter, Toneless, core, plain-again, each-plain, plain-toneless, verdict-core, verdict-plain}
+use Rattle.p4_spelling.proofs.Letters.{plainLetter}
+use Rattle.p5_listing.proofs.Plain.{Toneless, core, plain-again, each-plain, plain-toneless, verdict-core, verdict-plain}
 use Rattle.p5_listing.proofs.Quick.{quick, quick-core}
 use Rattle.p5_listing.proofs.Computed.{size-listing, sorted-listing, all-accepted}
 use Rattle.p5_listing.proofs.Complete.{core-held}

@@ -15,139 +15,8 @@ use Rattle.p1_letters.specs.Alphabet.{lower, isAsciiCapital, smallBy32, smallBy
 use Rattle.p1_letters.specs.Tones.{toneOff, offIn, toneRows}
 use Rattle.p4_rows.specs.Rows.{Word}
 use Rattle.p4_spelling.specs.Verdict.{hasForeign, fits, lowered, toneless, verdict}
+use Rattle.p4_spelling.proofs.Letters.{plainLetter, joined, touched, Stays, every-letter, letter-plain, alike}
 use Rattle.p5_listing.specs.Listed.{plain}
-
--- a letter's lower-case toneless form
-unfoldable pub plainLetter : ℕ → ℕ
-plainLetter x = toneOff (lower x)
-
-unfoldable joined : List (List ℕ) → List ℕ
-joined [] = []
-joined (r ∷ rs) = r ++ joined rs
-
--- the letters that lower case changes, and those in whose rows tones go on and off
-unfoldable touched : List (List ℕ)
-touched = count 26 65 ∷ map (λ (y : ℕ). y - 32) smallBy32 ∷ map (λ (y : ℕ). y - 1) smallBy1 ∷ count 89 0x1ea0 ∷ toneRows
-
-among-left : (x : ℕ) (ys zs : List ℕ) → among x ys ≡ true → among x (ys ++ zs) ≡ true
-among-left x [] zs e = let z : _≡_ {A = ℕ} 0 1 = cc in absurd (omega arith)
-among-left x (y ∷ ys) zs e = go (eqb x y) e (λ q. among-left x ys zs q)
-  where
-    go : (b : Bool) → pick b true (among x ys) ≡ true → (among x ys ≡ true → among x (ys ++ zs) ≡ true) → pick b true (among x (ys ++ zs)) ≡ true
-    go true q f = refl
-    go false q f = f q
-
-among-right : (x : ℕ) (ys zs : List ℕ) → among x zs ≡ true → among x (ys ++ zs) ≡ true
-among-right x [] zs e = e
-among-right x (y ∷ ys) zs e = go (eqb x y) (among-right x ys zs e)
-  where
-    go : (b : Bool) → among x (ys ++ zs) ≡ true → pick b true (among x (ys ++ zs)) ≡ true
-    go true q = refl
-    go false q = q
-
-among-joined : (x : ℕ) (rs : List (List ℕ)) (k : ℕ) → among x (getD rs k []) ≡ true → among x (joined rs) ≡ true
-unfolding joined
-among-joined x [] zero e = let z : _≡_ {A = ℕ} 0 1 = cc in absurd (omega arith)
-among-joined x [] (suc k) e = let z : _≡_ {A = ℕ} 0 1 = cc in absurd (omega arith)
-among-joined x (r ∷ rs) zero e = among-left x r (joined rs) e
-among-joined x (r ∷ rs) (suc k) e = among-right x r (joined rs) (among-joined x rs k e)
-
-among-later : (x : ℕ) (r : List ℕ) (rs : List (List ℕ)) → among x (joined rs) ≡ true → among x (joined (r ∷ rs)) ≡ true
-unfolding joined
-among-later x r rs e = among-right x r (joined rs) e
-
-among-map : (f : ℕ → ℕ) (x : ℕ) (ys : List ℕ) → among x ys ≡ true → among (f x) (map f ys) ≡ true
-among-map f x [] e = let z : _≡_ {A = ℕ} 0 1 = cc in absurd (omega arith)
-among-map f x (y ∷ ys) e = go (eqb x y) refl (eqb (f x) (f y)) refl e (λ q. among-map f x ys q)
-  where
-    go : (b : Bool) → eqb x y ≡ b → (c : Bool) → eqb (f x) (f y) ≡ c → pick b true (among x ys) ≡ true
-        → (among x ys ≡ true → among (f x) (map f ys) ≡ true) → pick c true (among (f x) (map f ys)) ≡ true
-    go b p true r q g = refl
-    go true p false r q g = absurd (eqb-false (f x) (f y) r (ap f (eqb-true x y p)))
-    go false p false r q g = g q
-
-among-count : (n i x : ℕ) → i ≤ x → x < i + n → among x (count n i) ≡ true
-among-count zero i x l h = absurd (omega arith)
-among-count (suc n) i x l h = go (eqb x i) refl (λ (k : suc i ≤ x). among-count n (suc i) x k (omega arith))
-  where
-    go : (b : Bool) → eqb x i ≡ b → (suc i ≤ x → among x (count n (suc i)) ≡ true) → pick b true (among x (count n (suc i))) ≡ true
-    go true e f = refl
-    go false e f = f (let d : (x ≡ i → ⊥) = eqb-false x i e in omega arith)
-
--- the letters that the tests of `lower` find are touched
-module _ (x : ℕ) where
-  capital-touched : isAsciiCapital x ≡ true → among x (count 26 65) ≡ true
-  unfolding isAsciiCapital
-  capital-touched e = go (ltb x 65) refl (leb x 90) refl e
-    where
-      go : (b : Bool) → ltb x 65 ≡ b → (c : Bool) → leb x 90 ≡ c → pick b false c ≡ true → among x (count 26 65) ≡ true
-      go true p c q h = let z : _≡_ {A = ℕ} 0 1 = cc in absurd (omega arith)
-      go false p true q h = among-count 26 65 x (ltb-false x 65 p) (omega (arith, leb-true x 90 q))
-      go false p false q h = let z : _≡_ {A = ℕ} 0 1 = cc in absurd (omega arith)
-
-  high-touched : smallHigh (x + 1) ≡ true → among x (count 89 0x1ea0) ≡ true
-  unfolding smallHigh
-  high-touched e = go (ltb (x + 1) 0x1ea1) refl (ltb 0x1ef9 (x + 1)) refl e
-    where
-      go : (b : Bool) → ltb (x + 1) 0x1ea1 ≡ b → (c : Bool) → ltb 0x1ef9 (x + 1) ≡ c
-          → pick b false (pick c false (eqb ((x + 1) % 2) 1)) ≡ true → among x (count 89 0x1ea0) ≡ true
-      go true p c q h = let z : _≡_ {A = ℕ} 0 1 = cc in absurd (omega arith)
-      go false p true q h = let z : _≡_ {A = ℕ} 0 1 = cc in absurd (omega arith)
-      go false p false q h = among-count 89 0x1ea0 x (omega (arith, ltb-false (x + 1) 0x1ea1 p)) (omega (arith, ltb-false 0x1ef9 (x + 1) q))
-
-  less : (k : ℕ) (ys : List ℕ) → among (x + k) ys ≡ true → among x (map (λ (y : ℕ). y - k) ys) ≡ true
-  less k ys e = let d : x + k - k ≡ x = omega arith in rw d at (among-map (λ (y : ℕ). y - k) (x + k) ys e)
-
-  lower-or : (lower x ≡ x) ⊎ (among x (joined touched) ≡ true)
-  unfolding lower smallNext touched
-  lower-or =
-      go (isAsciiCapital x) refl (among (x + 32) smallBy32) refl (among (x + 1) smallBy1) refl (smallHigh (x + 1)) refl
-    where
-      go : (a : Bool) → isAsciiCapital x ≡ a → (b : Bool) → among (x + 32) smallBy32 ≡ b → (c : Bool) → among (x + 1) smallBy1 ≡ c → (d : Bool)
-          → smallHigh (x + 1) ≡ d → (pick a (x + 32) (pick b (x + 32) (pick (pick c true d) (x + 1) x)) ≡ x) ⊎ (among x (joined touched) ≡ true)
-      go true p b q c r d s = inr (among-joined x touched 0 (capital-touched p))
-      go false p true q c r d s = inr (among-joined x touched 1 (less 32 smallBy32 q))
-      go false p false q true r d s = inr (among-joined x touched 2 (less 1 smallBy1 r))
-      go false p false q false r true s = inr (among-joined x touched 3 (high-touched s))
-      go false p false q false r false s = inl refl
-
-  off-or : (rs : List (List ℕ)) → (offIn rs x ≡ x) ⊎ (among x (joined rs) ≡ true)
-  unfolding offIn joined
-  off-or [] = inl refl
-  off-or (r ∷ rs) = go (among x r) refl (off-or rs)
-    where
-      go : (b : Bool) → among x r ≡ b → (offIn rs x ≡ x) ⊎ (among x (joined rs) ≡ true)
-          → (pick b (getD r 0 0) (offIn rs x) ≡ x) ⊎ (among x (r ++ joined rs) ≡ true)
-      go true p h = inr (among-left x r (joined rs) p)
-      go false p (inl h) = inl h
-      go false p (inr h) = inr (among-right x r (joined rs) h)
-
-  rows-touched : among x (joined toneRows) ≡ true → among x (joined touched) ≡ true
-  unfolding touched
-  rows-touched e = among-later x _ _ (among-later x _ _ (among-later x _ _ (among-later x _ toneRows e)))
-
--- a letter that neither changes
-record Stays (x : ℕ) : Type 0 where
-  low : lower x ≡ x
-  off : toneOff x ≡ x
-
-stays-or : (x : ℕ) → Stays x ⊎ (among x (joined touched) ≡ true)
-unfolding toneOff
-stays-or x = go (lower-or x) (off-or x toneRows)
-  where
-    go : (lower x ≡ x) ⊎ (among x (joined touched) ≡ true) → (offIn toneRows x ≡ x) ⊎ (among x (joined toneRows) ≡ true)
-        → Stays x ⊎ (among x (joined touched) ≡ true)
-    go (inr h) k = inr h
-    go (inl h) (inl k) = inl (record { low = h; off = k })
-    go (inl h) (inr k) = inr (rows-touched x k)
-
--- what holds of a letter that stays, and of the touched by a test, holds of every letter
-every-letter : (p : ℕ → Bool) → ((x : ℕ) → Stays x → p x ≡ true) → T (each p (joined touched)) → (x : ℕ) → p x ≡ true
-every-letter p f t x = ⊎-elim (λ s. f x s) (λ e. each-among p (joined touched) t x e) (stays-or x)
-
-letter-plain : (x : ℕ) → Stays x → plainLetter x ≡ x
-unfolding plainLetter
-letter-plain x s = ap toneOff (s .low) ∙ s .off
 
 settles : ℕ → Bool
 settles x = eqb (plainLetter (plainLetter x)) (plainLetter x)
@@ -176,10 +45,6 @@ letter-foreign : (x : ℕ) → among (plainLetter x) (word "fjwz") ≡ among (lo
 unfolding foreign-letter plainLetter touched joined word lower isAsciiCapital smallBy32 smallBy1 smallHigh smallNext toneOff offIn toneRows
 letter-foreign x = same-true (among (plainLetter x) (word "fjwz")) (among (lower x) (word "fjwz")) (every-letter foreign-letter kept tt x)
   where
-    alike : (b c : Bool) → b ≡ c → same b c ≡ true
-    alike true c e = sym e
-    alike false c e = rw (← e)
-
     kept : (y : ℕ) → Stays y → foreign-letter y ≡ true
     kept y s = alike _ _ (ap (λ (z : ℕ). among z (word "fjwz")) (letter-plain y s ∙ sym (s .low)))
 

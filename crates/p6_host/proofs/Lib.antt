@@ -1,2 +1,3 @@
 pub mod LetterCalls
+pub mod MethodCalls
 pub mod Told

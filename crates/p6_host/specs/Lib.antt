@@ -1,2 +1,4 @@
 pub mod LetterCalls
+pub mod MethodCalls
+pub mod CompositionCalls
 pub mod Counts

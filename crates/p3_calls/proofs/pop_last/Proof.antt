@@ -9,9 +9,12 @@ pop-last-spec =
     tie.close
     (tie.spec
     (λ c κs. search needs)
+    (λ c κs. search needs)
     (λ c. (search pop-unsound, search pop-unsound-out))
+    (λ c κs. search needs)
     (λ c. (search (pop-empty, length-under), search (pop-empty-out, length-under)))
     (λ c. search needs)
+    (λ c κs. search needs)
     (λ c. (search (pop-short, length-under), search (pop-short-out, length-under)))
     (λ c κs. search needs)
     (λ c. search needs)
