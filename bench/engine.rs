@@ -12,6 +12,7 @@ pub fn new() -> Engine {
     BambooEngine::new(InputMethod::Telex)
 }
 
+/// What the keys leave of a fresh composition.
 pub fn text_of(engine: &mut Engine, keys: &[u32]) -> String {
     engine.reset();
     let mut text = String::new();
@@ -42,8 +43,8 @@ pub fn key_line(note: &mut Note) -> usize {
     typed(&mut note.engine, &note.line)
 }
 
-pub fn key_full(note: &mut Note) -> usize {
-    typed(&mut note.engine, &note.full)
+pub fn key_one(note: &mut Note) -> usize {
+    typed(&mut note.engine, &note.one)
 }
 
 pub fn verdict(note: &mut Note) -> usize {
@@ -58,4 +59,11 @@ pub fn cut(note: &mut Note) -> usize {
         black_box(spelling::partition(&word.text));
     }
     note.words.len()
+}
+
+/// The verdict, and where the onset and the vowels end, as ours answers them.
+pub fn verdict_and_cut(word: &str) -> (bool, (usize, usize)) {
+    let (onset, vowels, _) = spelling::partition(word);
+    let onset = onset.chars().count();
+    (spelling::is_valid_vietnamese_syllable(word), (onset, onset + vowels.chars().count()))
 }

@@ -1,11 +1,11 @@
 //! The port against the Rust that it ports, timed in one program: `bench/run` builds and starts it.
 //!
-//!   driver NOTE                 the table, and a line `ratio NAME X` for each figure
-//!   driver NOTE --counted       runs each side once, in the order of the lines `SIDE NAME UNITS` that it prints, inside
-//!                               `counted`: for a tool that counts what is done there
-//!   driver NOTE --table COUNTS  the table again with the instructions of such a run: a line `SIDE NAME INSTRUCTIONS` each
+//!   driver NOTE            the table, and a line `ratio NAME X` for each figure
+//!   driver NOTE --once     runs each side of each figure once, in the function `counted`, for a tool that counts what is
+//!                          done there, and prints `SIDE NAME UNITS` for each
+//!   driver NOTE --counts   the table of such counts: lines `SIDE NAME UNITS INSTRUCTIONS` on standard input
 //!
-//! Built with `--cfg engine`, the Rust is there; without it, ours stands alone.
+//! Built with `--cfg engine`, the Rust is there; without it ours stands alone.
 
 #[cfg(engine)]
 #[allow(dead_code)]
@@ -25,20 +25,20 @@ mod spelling {
     include!(concat!(env!("ENGINE"), "/spelling.rs"));
 }
 
+mod calls;
 #[cfg(engine)]
 mod engine;
-mod calls;
 mod figures;
 mod note;
 mod table;
 
-use figures::{Figure, Side, FIGURES};
+use figures::{Side, FIGURES};
 use note::Note;
 use std::hint::black_box;
 use table::Times;
 
-/// A figure's sides alternate this often without a pause, and all figures take turns this often: so what else the
-/// machine does in a while hits both sides, and hits no figure in every round.
+/// A figure's sides alternate TURNS times without a pause, and the figures take turns in ROUNDS: what else the machine does
+/// for a while hits every side of a figure, and no figure in all rounds.
 const TURNS: usize = 100;
 const ROUNDS: usize = 20;
 
@@ -46,29 +46,30 @@ fn main() {
     let words: Vec<String> = std::env::args().skip(1).collect();
     let words: Vec<&str> = words.iter().map(String::as_str).collect();
     let (path, option) = match words[..] {
-        [path] => (path, None),
-        [path, "--counted"] => (path, Some("")),
-        [path, "--table", counts] => (path, Some(counts)),
-        _ => panic!("usage: driver NOTE [--counted | --table COUNTS]"),
+        [path] => (path, ""),
+        [path, option] => (path, option),
+        _ => panic!("driver NOTE [--once | --counts]"),
     };
-    let text = std::fs::read_to_string(path).expect("the note can be read");
-    let mut note = Note::new(&text);
-    note.check();
+    let mut note = Note::new(&std::fs::read_to_string(path).expect("the note can be read"));
     match option {
-        Some("") => count(&mut note),
-        counts => {
+        "" => {
+            note.check();
             let times = measure(&mut note);
-            table::print(&note, &times, counts, ROUNDS * TURNS);
+            table::print(&note, &times, TURNS * ROUNDS);
         }
+        "--once" => once(&mut note),
+        "--counts" => {
+            let counts = std::io::read_to_string(std::io::stdin()).expect("the counts can be read");
+            table::print_counts(&table::read_counts(&counts));
+        }
+        _ => panic!("no option {option}"),
     }
 }
 
-/// Every side of every figure once, each inside `counted`.
-fn count(note: &mut Note) {
+fn once(note: &mut Note) {
     for figure in FIGURES {
         for (side, run) in figure.sides() {
-            let units = counted(run, note);
-            println!("{side} {} {units}", figure.name);
+            println!("{side} {} {}", figure.name, counted(run, note));
         }
     }
 }
@@ -79,16 +80,17 @@ fn counted(run: Side, note: &mut Note) -> usize {
     black_box(run(note))
 }
 
-/// The CPU time of each side of each figure, in nanoseconds a unit, for each repetition.
 fn measure(note: &mut Note) -> Vec<Times> {
-    let mut times: Vec<Times> = FIGURES.iter().map(Figure::no_times).collect();
+    let mut times: Vec<Times> = FIGURES.iter().map(|_| Times::new()).collect();
     for _ in 0..ROUNDS {
         for (figure, times) in FIGURES.iter().zip(&mut times) {
+            let sides = figure.sides();
             for _ in 0..TURNS {
-                for ((_, run), taken) in figure.sides().zip(&mut times.taken) {
+                for &(side, run) in &sides {
                     let begun = cpu_time();
                     let units = black_box(run(note));
-                    taken.push((cpu_time() - begun) / units as f64);
+                    let taken = cpu_time() - begun;
+                    times.entry(side).or_default().push(taken / units as f64);
                 }
             }
         }

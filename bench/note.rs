@@ -1,11 +1,11 @@
 //! The note, made ready for both sides: keys as numbers and as `char`, words as letters and as `String`.
 
-use crate::calls;
+use crate::calls::{self, Typist};
 
 /// U+000A among the keys of a habit: here the composition starts afresh.
 pub const RESET: u32 = 0x0a;
 
-/// The most letters of a text: 32 cells.
+/// More letters than a text can have.
 pub const ROOM: usize = 64;
 
 /// The keys, with a RESET wherever a host of this habit starts a fresh composition.
@@ -19,11 +19,12 @@ pub struct Habit {
 impl Habit {
     fn new(keys: Vec<u32>) -> Habit {
         let typed = keys.iter().filter(|&&key| key != RESET).count();
-        let chars = keys.iter().map(|&key| char::from_u32(key).expect("a key is a letter")).collect();
+        let chars = keys.iter().map(|&key| letter(key)).collect();
         Habit { keys, chars, typed }
     }
 }
 
+/// A word or a line, as each side takes it.
 pub struct Text {
     pub letters: Vec<u32>,
     pub text: String,
@@ -36,15 +37,15 @@ impl Text {
 }
 
 pub struct Note {
-    /// A fresh composition after each space and line.
+    /// A fresh composition after each space and each line.
     pub space: Habit,
-    /// A fresh composition after each line; spaces are typed.
+    /// A fresh composition after each line; its spaces are typed.
     pub line: Habit,
-    /// One long line; a fresh composition where a key finds all 32 cells in use, and that key opens it.
-    pub full: Habit,
+    /// One line of all; a fresh composition where a key would need a 33rd cell, and that key opens it.
+    pub one: Habit,
     /// The words that the keys make, without digits and points.
     pub words: Vec<Text>,
-    /// The lines that the keys make when each word is composed by itself.
+    /// The lines that the keys make, each word composed by itself.
     pub lines: Vec<Text>,
     pub letters: [u32; 256],
     pub bytes: [u8; 256],
@@ -57,13 +58,13 @@ impl Note {
     pub fn new(text: &str) -> Note {
         let keys: Vec<u32> = text.chars().map(u32::from).collect();
         let spaces_reset = |&key: &u32| if key == u32::from(' ') { RESET } else { key };
-        let lines: Vec<Text> = text.lines().map(|line| Text::new(&composed_line(line))).collect();
+        let lines: Vec<Text> = text.lines().map(|line| Text::new(&composed(line))).collect();
         let words = lines.iter().flat_map(|line| line.text.split(|letter: char| !letter.is_alphabetic()));
         let words = words.filter(|word| !word.is_empty()).map(Text::new).collect();
         Note {
             space: Habit::new(keys.iter().map(spaces_reset).collect()),
-            line: Habit::new(keys.clone()),
-            full: Habit::new(reset_when_full(text)),
+            line: Habit::new(keys),
+            one: Habit::new(reset_when_full(text)),
             words,
             lines,
             letters: [0; 256],
@@ -74,31 +75,43 @@ impl Note {
         }
     }
 
-    /// Both sides write the same text after every key of every habit, and no key is refused.
+    /// The sides do the same: after every key of every habit they have the same text, and no key is refused; and they
+    /// judge and cut every word alike.
     pub fn check(&mut self) {
-        for habit in [&self.space, &self.line, &self.full] {
+        for habit in [&self.space, &self.line, &self.one] {
             for keys in habit.keys.split(|&key| key == RESET) {
-                for typed in 1..=keys.len() {
-                    let ours = text_of(&keys[..typed], calls::keys).expect("no key of the note is refused");
-                    assert_eq!(Some(&ours), text_of(&keys[..typed], calls::sound_keys).as_ref());
+                for typed in (1..=keys.len()).map(|count| &keys[..count]) {
+                    let text = text_of(typed, calls::keys).expect("no key of the note is refused");
+                    assert_eq!(text_of(typed, calls::sound_keys).as_ref(), Some(&text));
+                    assert_eq!(text_of(typed, calls::host_keys).as_ref(), Some(&text));
                     #[cfg(engine)]
-                    assert_eq!(ours, crate::engine::text_of(&mut self.engine, &keys[..typed]));
+                    assert_eq!(crate::engine::text_of(&mut self.engine, typed), text);
                 }
             }
+        }
+        #[cfg(engine)]
+        for Text { letters, text } in &self.words {
+            assert_eq!((calls::verdict(letters), calls::cut(letters)), crate::engine::verdict_and_cut(text), "{text}");
         }
     }
 }
 
-/// What the keys leave of a fresh composition, if none is refused.
-fn text_of(keys: &[u32], typed: fn(&[u32], &mut [u32]) -> usize) -> Option<String> {
-    const NONE: u32 = u32::MAX;
-    let mut text = [NONE; ROOM];
-    let refused = typed(keys, &mut text);
-    let letters = text.iter().take_while(|&&letter| letter != NONE);
-    (refused == 0).then(|| letters.map(|&letter| char::from_u32(letter).expect("a letter is a char")).collect())
+fn letter(code: u32) -> char {
+    char::from_u32(code).expect("a letter is a char")
 }
 
-fn composed_line(line: &str) -> String {
+/// What the keys leave of a fresh composition, if none is refused.
+fn text_of(keys: &[u32], typist: Typist) -> Option<String> {
+    const NONE: u32 = u32::MAX;
+    let mut text = [NONE; ROOM];
+    let refused = typist(keys, &mut text);
+    let letters = text.iter().copied().take_while(|&code| code != NONE);
+    // a mark or a tone takes no cell, so the text is never longer than the last one
+    (refused == 0).then(|| letters.map(letter).collect())
+}
+
+/// The text of a line, each word composed by itself.
+fn composed(line: &str) -> String {
     let words = line.split(' ').map(|word| {
         let keys: Vec<u32> = word.chars().map(u32::from).collect();
         text_of(&keys, calls::keys).expect("a word fits in a composition")
@@ -106,6 +119,7 @@ fn composed_line(line: &str) -> String {
     words.collect::<Vec<String>>().join(" ")
 }
 
+/// All keys in one line, with a RESET before each that is refused without it.
 fn reset_when_full(text: &str) -> Vec<u32> {
     let (mut keys, mut since) = (Vec::new(), 0);
     for key in text.trim_end().chars().map(|key| if key == '\n' { ' ' } else { key }) {

@@ -1,55 +1,77 @@
-//! What is printed: a table for people, and a line `ratio NAME X` for each figure that has the two sides.
+//! What is printed: a table for people, and a line `ratio NAME X` for each figure that has two sides.
 
-use crate::figures::FIGURES;
+use crate::figures::{Figure, FIGURES};
 use crate::note::Note;
+use std::collections::HashMap;
 
-/// The nanoseconds a unit of each side of a figure, for each repetition.
-pub struct Times {
-    pub sides: Vec<&'static str>,
-    pub taken: Vec<Vec<f64>>,
+/// For each side of a figure the nanoseconds a unit, one for each repetition.
+pub type Times = HashMap<&'static str, Vec<f64>>;
+
+/// For each side of a figure the instructions a unit.
+pub type Counts = HashMap<(String, String), f64>;
+
+/// The best and the middle of the repetitions.
+struct Summary {
+    best: f64,
+    middle: f64,
 }
 
-impl Times {
-    fn of(&self, side: &str) -> Option<&[f64]> {
-        let place = self.sides.iter().position(|&name| name == side)?;
-        Some(&self.taken[place])
-    }
-
-    fn best(&self, side: &str) -> Option<f64> {
-        self.of(side)?.iter().copied().reduce(f64::min)
-    }
-
-    fn middle(&self, side: &str) -> Option<f64> {
-        let mut taken = self.of(side)?.to_vec();
-        taken.sort_by(f64::total_cmp);
-        Some(taken[taken.len() / 2])
-    }
+fn summary(times: &Times, side: &str) -> Option<Summary> {
+    let mut taken = times.get(side)?.clone();
+    taken.sort_by(f64::total_cmp);
+    Some(Summary { best: taken[0], middle: taken[taken.len() / 2] })
 }
 
 fn cell(number: Option<f64>, digits: usize) -> String {
     number.map_or("-".to_string(), |number| format!("{number:.digits$}"))
 }
 
-fn quotient(ours: Option<f64>, theirs: Option<f64>) -> Option<f64> {
-    Some(ours? / theirs?)
+/// `SIDE NAME UNITS INSTRUCTIONS` in each line.
+pub fn read_counts(lines: &str) -> Counts {
+    let count = |line: &str| {
+        let words: Vec<&str> = line.split_whitespace().collect();
+        let [side, name, units, instructions] = words[..] else { panic!("not a count: {line}") };
+        let number = |word: &str| word.parse::<f64>().expect("a count is a number");
+        ((side.to_string(), name.to_string()), number(instructions) / number(units))
+    };
+    lines.lines().map(count).collect()
 }
 
-pub fn print(note: &Note, times: &[Times], _counts: Option<&str>, repetitions: usize) {
+pub fn print(note: &Note, times: &[Times], repetitions: usize) {
     println!(
-        "note: {} lines, {} words, {} keys without spaces and line ends; best of {repetitions} repetitions, CPU time in ns a unit",
-        note.lines.len(), note.words.len(), note.space.typed,
+        "The note: {} words in {} lines, {} keys without its spaces and line ends.",
+        note.words.len(), note.lines.len(), note.space.typed
     );
-    println!("{:50} {:>8} {:>8} {:>8} {:>8} {:>8}", "", "ours", "Rust", "floor", "ratio", "median");
+    println!("CPU time, ns a unit: the best of {repetitions} repetitions (ratio: of the best; middle: of the medians)");
+    println!();
+    println!("{:40}{:>8}{:>8}{:>8}{:>8}{:>8}", "", "ours", "Rust", "floor", "ratio", "middle");
+    let mut ratios = Vec::new();
     for (figure, times) in FIGURES.iter().zip(times) {
-        let (ours, rust) = (times.best("ours"), times.best("rust"));
-        let median = quotient(times.middle("ours"), times.middle("rust"));
-        println!("{:50} {:>8} {:>8} {:>8} {:>8} {:>8}  a {}",
-            figure.what, cell(ours, 1), cell(rust, 1), cell(times.best("floor"), 1),
-            cell(quotient(ours, rust), 3), cell(median, 3), figure.unit);
+        let [ours, rust, floor] = ["ours", "rust", "floor"].map(|side| summary(times, side));
+        let [best, middle] = [|side: &Summary| side.best, |side: &Summary| side.middle]
+            .map(|which| Some(which(ours.as_ref()?) / which(rust.as_ref()?)));
+        let [ours, rust, floor] = [ours, rust, floor].map(|side| side.map(|side| side.best));
+        print!("{:40}{:>8}{:>8}", figure.what, cell(ours, 1), cell(rust, 1));
+        println!("{:>8}{:>8}{:>8} a {}", cell(floor, 1), cell(best, 3), cell(middle, 3), figure.unit);
+        ratios.extend(best.map(|ratio| (figure.name, ratio)));
     }
-    for (figure, times) in FIGURES.iter().zip(times) {
-        if let Some(ratio) = quotient(times.best("ours"), times.best("rust")) {
-            println!("ratio {} {ratio:.3}", figure.name);
-        }
+    let best_of = |name: &str| {
+        let place = FIGURES.iter().position(|figure: &Figure| figure.name == name).expect("a figure");
+        summary(&times[place], "ours").expect("ours is always there").best
+    };
+    ratios.push(("call-over-value", best_of("call-space") / best_of("key-space")));
+    println!();
+    ratios.iter().for_each(|(name, ratio)| println!("ratio {name} {ratio:.3}"));
+}
+
+pub fn print_counts(counts: &Counts) {
+    println!("Instructions a unit");
+    println!();
+    println!("{:40}{:>8}{:>8}{:>8}{:>8}", "", "ours", "Rust", "floor", "ratio");
+    for figure in FIGURES {
+        let of = |side: &str| counts.get(&(side.to_string(), figure.name.to_string())).copied();
+        let ratio = of("ours").and_then(|ours| Some(ours / of("rust")?));
+        print!("{:40}{:>8}{:>8}", figure.what, cell(of("ours"), 0), cell(of("rust"), 0));
+        println!("{:>8}{:>8} a {}", cell(of("floor"), 0), cell(ratio, 3), figure.unit);
     }
 }

@@ -21,7 +21,7 @@ pub record Copying (row d : List ℕ) (n : ℕ) (text : List ℕ) (i : ℕ) : Ty
   pub kept : length text ≡ length d
   pub is : text ≡ take i row ++ drop i d
 
-module _ (row d : List ℕ) (n : ℕ) (w : length row ≡ 32) (f : n ≤ 32) where
+module _ (row d : List ℕ) (n : ℕ) (w : n ≤ length row) where
   pub copy-short : length d < n → d ≡ copied (take n row) d
   unfolding copied
   copy-short h = rw (length-take-le n row (omega arith)) (pick-lt (length d) n _ _ _ h refl)
@@ -75,6 +75,9 @@ module _ (keys d : List ℕ) where
       kept = l .kept;
       run = run-more lay (blankSheet d) keys _ _ i h (pick-eq _ _ _ _ _ e refl) (l .run);
     }
+
+    pub lay-room : (at k : ℕ) → at < 32 → at + 1 ≤ length (set row at k)
+    lay-room at k b = rw (length-set row at k, l .wide) (omega arith)
 
     pub lay-more : (at : ℕ) (text' : List ℕ) → at ≡ freePlace count → at < 32 → (getD keys i 0 ≡ lineEnd → ⊥)
         → text' ≡ copied (take (at + 1) (set row at (getD keys i 0))) text → Laying keys d text' (set row at (getD keys i 0)) (at + 1) (i + 1)

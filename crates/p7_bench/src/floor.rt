@@ -9,9 +9,9 @@ ghost use Rattle.p7_bench.specs.Floor.{copied, freePlace, lay, blankShee
 const ROW: usize = 32;
 
 // Copies the first n letters of the row to the start of a text that has room for them.
-fn copy(row: [u32; ROW], n: usize, text: &mut [u32])
-    requires { ⌜ n ≤ 32 ⌝ }
-    ensures { λ r. ⌜ now (text .exit) ≡ copied (take n row) (now (text .entry)) ⌝ }
+fn copy(row: &[u32], n: usize, text: &mut [u32])
+    requires { ⌜ n ≤ length (now row) ⌝ }
+    ensures { λ r. ⌜ now (text .exit) ≡ copied (take n (now (row .entry))) (now (text .entry)) ⌝ }
 {
     if text.len() < n {
         return;
@@ -52,7 +52,7 @@ pub extern "C" fn pasdrongel_bench_floor(keys: &[u32], text: &mut [u32]) -> usiz
         let at = free_place(count);
         row[at] = k;
         count = at + 1;
-        copy(row, count, text);
+        copy(&row, count, text);
     }
     count
 }

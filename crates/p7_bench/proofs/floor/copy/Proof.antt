@@ -1,5 +1,4 @@
 use Prim.Native.Nat.{_-_, _≤_}
-use mathlib.Core.Path.{_≡_}
 use borrow.Author.Needs.{needs}
 use lib.ListN.{length}
 use Rattle.p7_bench.proofs.Rows.{Copying, copy-short, copy-start, copy-more, copy-end}
@@ -7,15 +6,12 @@ use Rattle.p7_bench.proofs.floor.copy.Statement.{statement}
 use Rattle.p7_bench.proofs.floor.copy.Tie as tie
 
 abbrev Inv-loop : tie.InvT-loop
-Inv-loop n text₀ row i₀ text i = (Copying row text₀ n text i) × (n ≤ length text₀)
+Inv-loop row n text₀ i₀ text i = (Copying row text₀ n text i) × (n ≤ length text₀)
 
 abbrev μ-loop : tie.MeasureT-loop
-μ-loop n text₀ row i₀ text i = n - i
+μ-loop row n text₀ i₀ text i = n - i
 
-wide : (c : tie.Start Inv-loop μ-loop) → length (c .args .t1) ≡ 32
-wide c = search needs
-
-ruleset copies = (needs, wide, copy-short, copy-start, copy-more, copy-end)
+ruleset copies = (needs, copy-short, copy-start, copy-more, copy-end)
 
 pub copy-spec : {M : Type 1} → statement M
 copy-spec =
