@@ -14,6 +14,29 @@ pub mod host {
         pub fn pasdrongel_tone_off(letter: u32, plain: *mut u32) -> u32;
         pub fn pasdrongel_is_composer_vowel(letter: u32, yes: *mut u32) -> u32;
         pub fn pasdrongel_is_speller_vowel(letter: u32, yes: *mut u32) -> u32;
+        pub fn pasdrongel_is_tone_key(method: u32, key: u32, yes: *mut u32) -> u32;
+        pub fn pasdrongel_is_horn_key(method: u32, key: u32, yes: *mut u32) -> u32;
+        pub fn pasdrongel_mark_for(method: u32, base: u32, key: u32, mark: *mut u32) -> u32;
+        pub fn pasdrongel_new(state: *mut u8, size: usize, method: u32) -> u32;
+        pub fn pasdrongel_composition_ok(state: *const u8, size: usize) -> u32;
+        pub fn pasdrongel_key(
+            state: *mut u8, size: usize, key: u32, text: *mut u32, room: usize, count: *mut usize) -> u32;
+        pub fn pasdrongel_text(
+            state: *const u8, size: usize, text: *mut u32, room: usize, count: *mut usize) -> u32;
+        pub fn pasdrongel_literal(state: *mut u8, size: usize, letter: u32) -> u32;
+        pub fn pasdrongel_remove_last(
+            state: *mut u8, size: usize, text: *mut u32, room: usize, count: *mut usize) -> u32;
+        pub fn pasdrongel_undo(
+            state: *mut u8, size: usize, trigger: u32, raw: *const u32, length: usize, behaviour: *mut u32) -> u32;
+        pub fn pasdrongel_reset(state: *mut u8, size: usize) -> u32;
+        pub fn pasdrongel_set_method(state: *mut u8, size: usize, method: u32) -> u32;
+        pub fn pasdrongel_set_mode(state: *mut u8, size: usize, mode: u32) -> u32;
+        pub fn pasdrongel_cut(word: *const u32, length: usize, onset: *mut usize, vowels: *mut usize) -> u32;
+        pub fn pasdrongel_verdict(word: *const u32, length: usize, yes: *mut u32) -> u32;
+        pub fn pasdrongel_total(total: *mut usize) -> u32;
+        pub fn pasdrongel_word(number: usize, word: *mut u32, room: usize, count: *mut usize) -> u32;
+        pub fn pasdrongel_next_word(
+            after: *const u32, length: usize, word: *mut u32, room: usize, count: *mut usize) -> u32;
         pub fn pasdrongel_read_utf8(
             bytes: *const u8, length: usize, letters: *mut u32, room: usize, count: *mut usize) -> u32;
         pub fn pasdrongel_write_utf8(

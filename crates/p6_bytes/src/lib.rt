@@ -5,12 +5,10 @@ ghost use mathlib.Core.List.{_++_};
 ghost use Prim.Native.Nat.{_+_, _*_, _-_, _≤_};
 ghost use lib.Dec.{eqb};
 ghost use lib.ListN.{length, take, drop};
-ghost use Rattle.p0_choice.specs.Choice.{pick, among};
-ghost use Rattle.p3_cells.specs.Cells.{limit, marks, toneFits, isCell, blanks, used, holding};
+ghost use Rattle.p0_choice.specs.Choice.{pick};
+ghost use Rattle.p3_cells.specs.Cells.{limit, blanks, used, holding};
 ghost use Rattle.p6_bytes.specs.Bytes.{size, methodByte, modeByte, flagByte, cellBytes, cellsBytes, bytesOf, cellAt, start, methodOf, modeOf, cellsAt, compositionOf, bytesSound};
 ghost use Rattle.p6_bytes.specs.Parts.{cellFits, cellsFit, zeroFrom, zeros};
-use p1_letters as letters;
-use p2_input_method as input_method;
 use p2_input_method::InputMethod;
 use p3_cells as cells;
 use p3_cells::Cell;
@@ -96,49 +94,6 @@ fn zero_from(b: &[u8], at: usize) -> bool
     most == 0
 }
 
-// One of ă â ê ô ơ ư đ.
-fn is_mark(m: u16) -> bool
-    ensures { λ r. ⌜ r ≡ among m marks ⌝ }
-{
-    match m {
-        0xe2 | 0xea | 0xf4 | 0x103 | 0x111 | 0x1a1 | 0x1b0 => true,
-        _ => false,
-    }
-}
-
-// No tone, or a tone key of either method.
-fn tone_fits(x: Cell) -> bool
-    ensures { λ r. ⌜ r ≡ toneFits x ⌝ }
-{
-    if x.tone == 0 {
-        return true;
-    }
-    let t = x.tone as u32;
-    if input_method::is_tone_key(InputMethod::Telex, t) {
-        return true;
-    }
-    input_method::is_tone_key(InputMethod::Vni, t)
-}
-
-// As p3_cells tests a cell in use.
-fn is_cell(x: Cell) -> bool
-    ensures { λ r. ⌜ r ≡ isCell x ⌝ }
-{
-    if x.mark == 0 {
-        if !tone_fits(x) {
-            return false;
-        }
-        return letters::in_alphabet(x.base);
-    }
-    if x.mark as u32 != x.base {
-        return false;
-    }
-    if !is_mark(x.mark) {
-        return false;
-    }
-    tone_fits(x)
-}
-
 fn cell_fits(b: &[u8], i: usize) -> bool
     requires { ⌜ (length (now b) ≡ size) × (i + 1 ≤ limit) ⌝ }
     ensures { λ r. ⌜ r ≡ cellFits (now (b .entry)) i ⌝ }
@@ -148,7 +103,7 @@ fn cell_fits(b: &[u8], i: usize) -> bool
         return false;
     }
     let x = cell_at(b, at);
-    is_cell(x)
+    cells::is_cell(x)
 }
 
 fn cells_fit(b: &[u8], n: usize) -> bool

@@ -11,11 +11,13 @@ use Rattle.p0_refusals.specs.declared.Answer.{Answer}
 use Rattle.p0_refusals.specs.declared.Answer.the-variants.{Done, Refused}
 use Rattle.p0_refusals.specs.declared.Refusal.the-variants.{Unsound}
 use Rattle.p2_input_method.specs.declared.InputMethod.{InputMethod}
-use Rattle.p3_cells.specs.Cells.{used, holding}
+use Rattle.p3_cells.specs.Cells.{isSound, used, holding}
 use Rattle.p3_cells.specs.declared.Composition.{Composition}
 use Rattle.p3_cells.specs.declared.Written.{Written}
 use Rattle.p6_bytes.specs.Bytes.{size, bytesOf, compositionOf, methodOf, bytesSound}
-use Rattle.p6_bytes.proofs.Sound.{sound-size}
+use Rattle.p6_bytes.proofs.Sound.{sound-size, sound-composition}
+use Rattle.p3_key.specs.Process.{keyed, keyOut}
+use Rattle.p3_key.specs.declared.Keyed.{Keyed}
 use Rattle.p3_calls.specs.Literal.{literal}
 use Rattle.p3_calls.specs.Output.{textAnswer, textOut, popped, popOut}
 use Rattle.p3_calls.specs.Settings.{created, resetTo, methodSet, enabledSet}
@@ -23,9 +25,9 @@ use Rattle.p3_calls.specs.declared.Changed.{Changed}
 use Rattle.p3_calls.specs.declared.Popped.{Popped}
 use Rattle.p3_undo.specs.Call.{undoTelex}
 use Rattle.p3_undo.specs.declared.Undone.{Undone}
-use Rattle.p6_composition.specs.Steps.{writtenAnswer, changedStep, poppedStep, undoneStep}
-use Rattle.p6_composition.specs.Calls.{answerOn, after, bytesOn, outOn, resetStep, literalStep, popStep, undoStep, orUnsound, methodStep, modeStep, textOn, newOn, newBytes}
-use Rattle.p6_composition.proofs.Tidy.{tidy-as, reset-tidy, literal-tidy, pop-tidy, undo-step-tidy, method-tidy, mode-tidy, created-tidy}
+use Rattle.p6_composition.specs.Steps.{writtenAnswer, keyedStep, changedStep, poppedStep, undoneStep}
+use Rattle.p6_composition.specs.Calls.{answerOn, after, bytesOn, outOn, keyStep, resetStep, literalStep, popStep, undoStep, orUnsound, methodStep, modeStep, textOn, newOn, newBytes}
+use Rattle.p6_composition.proofs.Tidy.{tidy-as, key-tidy, reset-tidy, literal-tidy, pop-tidy, undo-step-tidy, method-tidy, mode-tidy, created-tidy}
 use Rattle.p6_composition.specs.declared.Step.{Step}
 
 -- the test has let the bytes through
@@ -58,6 +60,19 @@ module _ (b : List ℕ) (s : Step) (v : Bool) (e : v ≡ bytesSound b) where
 pub unsound-out : (b out o : List ℕ) (v : Bool) → v ≡ bytesSound b → not v ≡ true → out ≡ outOn b out o
 unfolding outOn
 unsound-out b out o v e t = rw (← e, not-true v t) refl
+
+-- ---- a key
+module _ (b : List ℕ) (c : Composition) (l : ℕ) (out : List ℕ) (k : Keyed) (p : Step) (f : c ≡ compositionOf b) (g : k ≡ keyed c l out) (h : p ≡ keyedStep k) where
+  pub key-is : p ≡ keyStep b l out
+  unfolding keyStep
+  key-is = rw (h, g, f) refl
+
+  pub key-ready : (v : Bool) → v ≡ bytesSound b → not v ≡ false → p .comp ≡ holding (p .comp) (used (p .comp))
+  key-ready v e t = tidy-as p (keyStep b l out) key-is (key-tidy b (ok-sound b v e t) l out)
+
+-- the composition that it is given is sound
+pub ok-read : (b : List ℕ) (v : Bool) (c : Composition) → v ≡ bytesSound b → not v ≡ false → c ≡ compositionOf b → isSound c ≡ true
+ok-read b v c e t f = rw f (sound-composition b (ok-sound b v e t))
 
 -- ---- the reset
 module _ (b : List ℕ) (c : Composition) (k : Changed) (p : Step) (f : c ≡ compositionOf b) (g : k ≡ resetTo c) (h : p ≡ changedStep k) where
@@ -97,6 +112,10 @@ module _ (b : List ℕ) (c : Composition) (l : ℕ) (raw : List ℕ) (k : Undone
 
 -- ---- outputs
 module _ (b out new : List ℕ) (c : Composition) (v : Bool) (e : v ≡ bytesSound b) (t : not v ≡ false) (f : c ≡ compositionOf b) where
+  pub key-out : (l : ℕ) → new ≡ keyOut c l out → new ≡ outOn b out (keyOut (compositionOf b) l out)
+  unfolding outOn
+  key-out l h = rw (← e, not-false v t, ← f) h
+
   pub pop-out : new ≡ popOut c out → new ≡ outOn b out (popOut (compositionOf b) out)
   unfolding outOn
   pop-out h = rw (← e, not-false v t, ← f) h

@@ -8,6 +8,7 @@ use Rattle.p0_refusals.specs.declared.Refusal.{Refusal}
 use Rattle.p3_cells.specs.declared.Composition.{Composition}
 use Rattle.p3_cells.specs.declared.Written.{Written}
 use Rattle.p3_cells.specs.declared.Written.the-variants.{Wrote, Refused as NotWritten}
+use Rattle.p3_key.specs.declared.Keyed.{Keyed}
 use Rattle.p3_calls.specs.declared.Answer.{Answer as Told}
 use Rattle.p3_calls.specs.declared.Answer.the-variants.{Done as Changes, Refused as Keeps}
 use Rattle.p3_calls.specs.declared.Changed.{Changed}
@@ -16,7 +17,7 @@ use Rattle.p3_undo.specs.declared.TelexUndo.{TelexUndo}
 use Rattle.p3_undo.specs.declared.TelexUndo.the-variants.{AppendTrigger, ConsumeTrigger, Refused as NoUndo}
 use Rattle.p3_undo.specs.declared.Undone.{Undone}
 use Rattle.p6_bytes.specs.Bytes.{bytesOf}
-use Rattle.p6_composition.specs.Steps.{writtenAnswer, changedAnswer, undoAnswer, changedStep, poppedStep, undoneStep}
+use Rattle.p6_composition.specs.Steps.{writtenAnswer, changedAnswer, undoAnswer, keyedStep, changedStep, poppedStep, undoneStep}
 use Rattle.p6_composition.specs.Calls.{after}
 
 pub wrote : (w : Written) (n : ℕ) → w ≡ Wrote n → Done n ≡ writtenAnswer w
@@ -39,6 +40,10 @@ consumes u e = rw e refl
 
 pub no-undo : (u : TelexUndo) (r : Refusal) → u ≡ NoUndo r → Refused r ≡ undoAnswer u
 no-undo u r e = rw e refl
+
+pub keyed-step : (k : Keyed) (a : Answer) → a ≡ writtenAnswer (k .answer) → record { comp = k .comp; answer = a } ≡ keyedStep k
+unfolding keyedStep
+keyed-step k a e = rw e refl
 
 pub changed-step : (k : Changed) (a : Answer) → a ≡ changedAnswer (k .answer) → record { comp = k .comp; answer = a } ≡ changedStep k
 unfolding changedStep

@@ -19,6 +19,8 @@ use Rattle.p3_cells.specs.declared.Mode.{Mode}
 use Rattle.p3_cells.specs.declared.Written.{Written}
 use Rattle.p3_cells.specs.declared.Written.the-variants.{Wrote, Refused as NotWritten}
 use Rattle.p3_cells.proofs.Holding.{used-holding, holding-used}
+use Rattle.p3_cells.specs.declared.Mode.the-variants.{Vietnamese, English}
+use Rattle.p3_key.specs.Process.{inMode, next, keyAnswer, keyComposition, keyed}
 use Rattle.p3_calls.specs.Answer.{changed}
 use Rattle.p3_calls.specs.Literal.{literalAnswer, literal}
 use Rattle.p3_calls.specs.Output.{left, popAnswer, popped}
@@ -34,8 +36,8 @@ use Rattle.p3_undo.specs.declared.Undone.{Undone}
 use Rattle.p6_bytes.specs.Bytes.{compositionOf, bytesSound, methodOf}
 use Rattle.p6_bytes.proofs.Sound.{sound-composition}
 use Rattle.p6_bytes.proofs.Reading.{cells-length}
-use Rattle.p6_composition.specs.Steps.{changedStep, poppedStep, undoneStep}
-use Rattle.p6_composition.specs.Calls.{resetStep, literalStep, popStep, undoStep, orUnsound, methodStep, modeStep}
+use Rattle.p6_composition.specs.Steps.{keyedStep, changedStep, poppedStep, undoneStep}
+use Rattle.p6_composition.specs.Calls.{keyStep, resetStep, literalStep, popStep, undoStep, orUnsound, methodStep, modeStep}
 use Rattle.p6_composition.specs.declared.Step.{Step}
 
 abbrev pub Tidy : Composition → Type 0
@@ -70,6 +72,10 @@ unless-tidy : (w : Written) (c d : Composition) → Tidy c → Tidy d → Tidy (
 unless-tidy (Wrote n) c d p q = q
 unless-tidy (NotWritten r) c d p q = p
 
+mode-either : (o : Mode) (c d : Composition) → Tidy c → Tidy d → Tidy (inMode o c d)
+mode-either Vietnamese c d p q = p
+mode-either English c d p q = q
+
 found-tidy : (c : Composition) (u : Undoing) → Tidy c → Tidy (undoFound c u .comp)
 unfolding undoFound
 found-tidy c Nothing e = e
@@ -95,6 +101,12 @@ module _ (b : List ℕ) (s : bytesSound b ≡ true) where
   or-tidy : (n : ℕ) (p : Step) → Tidy (p .comp) → Tidy (orUnsound b n p .comp)
   unfolding orUnsound
   or-tidy n p e = pick-both (λ (q : Step). Tidy (q .comp)) (leb n 1) p _ (λ h. e) (λ h. read-tidy b s)
+
+  pub key-tidy : (key : ℕ) (out : List ℕ) → Tidy (keyStep b key out .comp)
+  unfolding keyStep keyedStep keyed keyComposition
+  key-tidy key out =
+      unless-tidy (keyAnswer (compositionOf b) key (length out)) (compositionOf b) _ (read-tidy b s)
+      (mode-either (compositionOf b .mode) _ (compositionOf b) (holding-tidy (compositionOf b) (next (compositionOf b) key)) (read-tidy b s))
 
   pub reset-tidy : Tidy (resetStep b .comp)
   unfolding resetStep changedStep resetTo

@@ -9,12 +9,13 @@ use Rattle.p0_refusals.specs.declared.Answer.{Answer}
 use Rattle.p0_refusals.specs.declared.Answer.the-variants.{Done, Refused}
 use Rattle.p0_refusals.specs.declared.Refusal.the-variants.{Unsound}
 use Rattle.p3_cells.specs.declared.Composition.{Composition}
+use Rattle.p3_key.specs.Process.{keyed}
 use Rattle.p3_calls.specs.Literal.{literal}
 use Rattle.p3_calls.specs.Output.{textAnswer, textOut, popped, popOut}
 use Rattle.p3_calls.specs.Settings.{created, resetTo, methodSet, enabledSet}
 use Rattle.p3_undo.specs.Call.{undoTelex}
 use Rattle.p6_bytes.specs.Bytes.{size, bytesOf, compositionOf, methodOf, bytesSound}
-use Rattle.p6_composition.specs.Steps.{writtenAnswer, changedStep, poppedStep, undoneStep}
+use Rattle.p6_composition.specs.Steps.{writtenAnswer, keyedStep, changedStep, poppedStep, undoneStep}
 use Rattle.p6_composition.specs.declared.Step.{Step}
 
 -- the answer, where s is what the call does to the composition that the bytes spell
@@ -34,6 +35,9 @@ unfoldable pub outOn : List ℕ → List ℕ → List ℕ → List ℕ
 outOn b out o = pick (bytesSound b) o out
 
 -- ---- what each call does
+unfoldable pub keyStep : List ℕ → ℕ → List ℕ → Step
+keyStep b key out = keyedStep (keyed (compositionOf b) key out)
+
 unfoldable pub resetStep : List ℕ → Step
 resetStep b = changedStep (resetTo (compositionOf b))
 

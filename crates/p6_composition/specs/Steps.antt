@@ -5,6 +5,7 @@ use Rattle.p0_refusals.specs.declared.Answer.{Answer}
 use Rattle.p0_refusals.specs.declared.Answer.the-variants.{Done, Refused}
 use Rattle.p3_cells.specs.declared.Written.{Written}
 use Rattle.p3_cells.specs.declared.Written.the-variants.{Wrote, Refused as NotWritten}
+use Rattle.p3_key.specs.declared.Keyed.{Keyed}
 use Rattle.p3_calls.specs.declared.Answer.{Answer as Told}
 use Rattle.p3_calls.specs.declared.Answer.the-variants.{Done as Changes, Refused as Keeps}
 use Rattle.p3_calls.specs.declared.Changed.{Changed}
@@ -26,6 +27,9 @@ abbrev pub undoAnswer : TelexUndo → Answer
 undoAnswer AppendTrigger = Done 0
 undoAnswer ConsumeTrigger = Done 1
 undoAnswer (NoUndo r) = Refused r
+
+unfoldable pub keyedStep : Keyed → Step
+keyedStep k = record { comp = k .comp; answer = writtenAnswer (k .answer) }
 
 unfoldable pub changedStep : Changed → Step
 changedStep k = record { comp = k .comp; answer = changedAnswer (k .answer) }

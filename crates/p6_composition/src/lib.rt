@@ -4,9 +4,10 @@ ghost use mathlib.Core.Path.{_≡_};
 ghost use lib.ListN.{length};
 ghost use Rattle.p3_calls.specs.Output.{textOut, popOut};
 ghost use Rattle.p3_cells.specs.Cells.{used, holding};
+ghost use Rattle.p3_key.specs.Process.{keyOut};
 ghost use Rattle.p6_bytes.specs.Bytes.{size, compositionOf, methodOf};
-ghost use Rattle.p6_composition.specs.Steps.{writtenAnswer, changedAnswer, undoAnswer, changedStep, poppedStep, undoneStep};
-ghost use Rattle.p6_composition.specs.Calls.{answerOn, after, bytesOn, outOn, resetStep, literalStep, popStep, undoStep, methodStep, modeStep, textOn, newOn, newBytes};
+ghost use Rattle.p6_composition.specs.Steps.{writtenAnswer, changedAnswer, undoAnswer, keyedStep, changedStep, poppedStep, undoneStep};
+ghost use Rattle.p6_composition.specs.Calls.{answerOn, after, bytesOn, outOn, keyStep, resetStep, literalStep, popStep, undoStep, methodStep, modeStep, textOn, newOn, newBytes};
 use p0_refusals::Answer;
 use p0_refusals::Refusal;
 use p2_input_method::InputMethod;
@@ -15,6 +16,7 @@ use p3_calls::Changed;
 use p3_calls::Popped;
 use p3_cells::Composition;
 use p3_cells::Written;
+use p3_key::Keyed;
 use p3_undo::TelexUndo;
 use p3_undo::Undone;
 use p6_bytes as bytes;
@@ -51,6 +53,15 @@ fn undo_answer(u: TelexUndo) -> Answer
         TelexUndo::ConsumeTrigger => Answer::Done(1),
         TelexUndo::Refused(why) => Answer::Refused(why),
     }
+}
+
+fn keyed_step(k: Keyed) -> Step
+    ensures { λ r. ⌜ r ≡ keyedStep k ⌝ }
+{
+    let d = k.comp;
+    let a = k.answer;
+    let answer = written_answer(a);
+    Step { comp: d, answer }
 }
 
 fn changed_step(k: Changed) -> Step
@@ -94,6 +105,20 @@ fn finish(s: Step, state: &mut [u8]) -> Answer
         }
         Answer::Refused(why) => Answer::Refused(why),
     }
+}
+
+pub fn process_key(state: &mut [u8], key: u32, out: &mut [u32]) -> Answer
+    ensures { λ r. ⌜ (r ≡ answerOn (now (state .entry)) (keyStep (now (state .entry)) key (now (out .entry))))
+        × (now (state .exit) ≡ bytesOn (now (state .entry)) (keyStep (now (state .entry)) key (now (out .entry))))
+        × (now (out .exit) ≡ outOn (now (state .entry)) (now (out .entry)) (keyOut (compositionOf (now (state .entry))) key (now (out .entry)))) ⌝ }
+{
+    if !bytes::bytes_ok(state) {
+        return Answer::Refused(Refusal::Unsound);
+    }
+    let c = bytes::decode(state);
+    let k = p3_key::process_sound_key(c, key, out);
+    let s = keyed_step(k);
+    finish(s, state)
 }
 
 pub fn reset(state: &mut [u8]) -> Answer

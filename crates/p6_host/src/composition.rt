@@ -3,8 +3,9 @@ ghost use mathlib.Core.Path.{_≡_};
 ghost use lib.ListN.{length};
 ghost use Rattle.p0_refusals.specs.Answers.{refusalOf};
 ghost use Rattle.p3_calls.specs.Output.{textOut, popOut};
+ghost use Rattle.p3_key.specs.Process.{keyOut};
 ghost use Rattle.p6_bytes.specs.Bytes.{compositionOf, bytesSound};
-ghost use Rattle.p6_composition.specs.Calls.{answerOn, bytesOn, outOn, resetStep, literalStep, popStep, undoStep, methodStep, modeStep, textOn, newOn, newBytes};
+ghost use Rattle.p6_composition.specs.Calls.{answerOn, bytesOn, outOn, keyStep, resetStep, literalStep, popStep, undoStep, methodStep, modeStep, textOn, newOn, newBytes};
 ghost use Rattle.p6_host.specs.Counts.{countOut, behaviourOut};
 ghost use Rattle.p6_host.specs.CompositionCalls.{soundCode};
 use crate::answers::tell;
@@ -30,6 +31,22 @@ pub extern "C" fn pasdrongel_composition_ok(state: &[u8]) -> u32
         return 0;
     }
     number(Refusal::Unsound)
+}
+
+#[no_mangle]
+pub extern "C" fn pasdrongel_key(
+    state: &mut [u8],
+    key: u32,
+    text: &mut [u32],
+    count: &mut usize,
+) -> u32
+    ensures { λ r. ⌜ r ≡ refusalOf (answerOn (now (state .entry)) (keyStep (now (state .entry)) key (now (text .entry)))) ⌝ }
+    ensures { λ r. ⌜ now (state .exit) ≡ bytesOn (now (state .entry)) (keyStep (now (state .entry)) key (now (text .entry))) ⌝ }
+    ensures { λ r. ⌜ now (text .exit) ≡ outOn (now (state .entry)) (now (text .entry)) (keyOut (compositionOf (now (state .entry))) key (now (text .entry))) ⌝ }
+    ensures { λ r. ⌜ now (count .exit) ≡ countOut (answerOn (now (state .entry)) (keyStep (now (state .entry)) key (now (text .entry)))) (now (count .entry)) ⌝ }
+{
+    let given = p6_composition::process_key(state, key, text);
+    tell(given, count)
 }
 
 #[no_mangle]

@@ -5,4 +5,6 @@ pub mod answers;
 pub mod composition;
 pub mod input_method;
 pub mod letters;
+pub mod lister;
+pub mod speller;
 pub mod utf8;

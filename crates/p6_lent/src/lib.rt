@@ -3,11 +3,22 @@
 ghost use mathlib.Core.Path.{_≡_};
 ghost use Rattle.p3_calls.specs.Output.{popped, popOut};
 ghost use Rattle.p3_calls.specs.Settings.{resetTo};
+ghost use Rattle.p3_key.specs.Process.{keyed, keyOut};
 ghost use Rattle.p3_undo.specs.Call.{undoTelex};
 use p3_calls::Answer;
 use p3_cells::Composition;
 use p3_cells::Written;
 use p3_undo::TelexUndo;
+
+pub fn process_key(c: &mut Composition, key: u32, out: &mut [u32]) -> Written
+    ensures { λ r. ⌜ (now (c .exit) ≡ keyed (now (c .entry)) key (now (out .entry)) .comp)
+        × (r ≡ keyed (now (c .entry)) key (now (out .entry)) .answer)
+        × (now (out .exit) ≡ keyOut (now (c .entry)) key (now (out .entry))) ⌝ }
+{
+    let k = p3_key::process_key(*c, key, out);
+    *c = k.comp;
+    k.answer
+}
 
 pub fn reset(c: &mut Composition) -> Answer
     ensures { λ r. ⌜ (now (c .exit) ≡ resetTo (now (c .entry)) .comp) × (r ≡ resetTo (now (c .entry)) .answer) ⌝ }
