@@ -13,7 +13,7 @@ use Rattle.p3_place.specs.Place as PlacePlace
 use Rattle.p3_marks.specs.Uo as MarksUo
 use Rattle.p3_marks.specs.Ua as MarksUa
 use Rattle.p3_marks.specs.Mark as MarksMark
-use Rattle.p3_key.specs.Key as KeyKey
+use Rattle.p3_step.specs.Key as KeyKey
 use Rattle.p3_calls.specs.Settings as CallsSettings
 use Rattle.p3_undo.specs.Raw as UndoRaw
 use Rattle.p3_undo.specs.Undo as UndoUndo
