@@ -94,7 +94,7 @@ fn tone_fits(x: Cell) -> bool
 }
 
 // A cell in use is as soundness asks. Most have no mark and no tone; a mark is a letter, so the base needs no second test.
-fn is_cell(x: Cell) -> bool
+pub fn is_cell(x: Cell) -> bool
     ensures { λ r. ⌜ r ≡ isCell x ⌝ }
 {
     if x.mark == 0 {
@@ -113,7 +113,7 @@ fn is_cell(x: Cell) -> bool
 }
 
 // A cell as one number, 0 for a blank cell alone: one load of 8 bytes.
-fn weight(x: Cell) -> u64
+pub fn weight(x: Cell) -> u64
     ensures { λ r. ⌜ (eqb r 0 ≡ isBlank x) × (r < 2 ^ 57) ⌝ }
 {
     let b = x.base as u64;

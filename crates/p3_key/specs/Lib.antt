@@ -1,2 +1,2 @@
-pub mod Key
 pub mod Process
+pub mod Edit

@@ -9,13 +9,15 @@ use Rattle.p0_refusals.specs.declared.Refusal.the-variants.{Foreign, Full, Shor
 use Rattle.p1_letters.specs.Alphabet.{inAlphabet}
 use Rattle.p3_cells.specs.Cells.{limit, isSound, used, holding}
 use Rattle.p3_cells.specs.Text.{textOf}
+use Rattle.p3_cells.specs.Written.{unless}
 use Rattle.p3_cells.specs.declared.Cell.{Cell}
 use Rattle.p3_cells.specs.declared.Composition.{Composition}
 use Rattle.p3_cells.specs.declared.Mode.{Mode}
 use Rattle.p3_cells.specs.declared.Mode.the-variants.{Vietnamese, English}
 use Rattle.p3_cells.specs.declared.Written.{Written}
 use Rattle.p3_cells.specs.declared.Written.the-variants.{Wrote, Refused}
-use Rattle.p3_key.specs.Key.{keyCells}
+use Rattle.p3_step.specs.Key.{keyCells}
+use Rattle.p3_key.specs.declared.Keyed.{Keyed}
 
 abbrev pub inMode : {A : Type 0} → Mode → A → A → A
 inMode Vietnamese a b = a
@@ -42,14 +44,13 @@ keyAnswer c key n =
     (Refused Foreign))
     (Refused Unsound)
 
--- "A refusal returns its number; the composition and lent outputs stay as they were."
-abbrev pub unless : {A : Type 0} → Written → A → A → A
-unless (Wrote n) old new = new
-unless (Refused r) old new = old
-
 -- the composition after the key; English mode: "nothing changes"
 unfoldable pub keyComposition : Composition → ℕ → ℕ → Composition
 keyComposition c key n = unless (keyAnswer c key n) c (inMode (c .mode) (holding c (next c key)) c)
+
+-- both
+unfoldable pub keyed : Composition → ℕ → List ℕ → Keyed
+keyed c key out = record { comp = keyComposition c key (length out); answer = keyAnswer c key (length out) }
 
 -- the output after the key: "written from the start of the output; the rest of it keeps its values"
 unfoldable pub keyOut : Composition → ℕ → List ℕ → List ℕ

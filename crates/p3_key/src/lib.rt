@@ -1,1 +1,239 @@
-// definitions only, so far
+// A key (bamboo.rs: process_key): its step with the refusals in their order, and the text.
+//
+// `compose` owns the composition: one copy in and one out. It has one way through, so that no copy is made for another,
+// and what a step reads is lent as a row of bases. A refusal puts the cell at hand back where it stood.
+ghost use mathlib.Core.Path.{_≡_};
+ghost use mathlib.Core.Bool.{true};
+ghost use Prim.Native.Nat.{_<_, _≤_, min};
+ghost use lib.Dec.{eqb};
+ghost use lib.ListN.{length};
+ghost use Rattle.p3_cells.specs.Cells.{limit, isCell, isSound};
+ghost use Rattle.p3_row.specs.Row.{rowCells};
+ghost use Rattle.p3_key.specs.Process.{keyed, keyOut};
+ghost use Rattle.p3_key.specs.Edit.{soundBy, letterFor, refused, stepEdit, passEdit, editOf};
+use p0_refusals::Refusal;
+use p1_letters as letters;
+use p2_input_method::InputMethod;
+use p3_cells as cells;
+use p3_cells::Cell;
+use p3_cells::Composition;
+use p3_cells::LIMIT;
+use p3_cells::Mode;
+use p3_cells::Written;
+use p3_step as step;
+use p3_step::Change;
+use p3_step::Step;
+
+// The composition after a key, and what was written.
+pub struct Keyed {
+    pub comp: Composition,
+    pub answer: Written,
+}
+
+// A step or a refusal, with how many letters are written and the answer.
+pub struct Edit {
+    pub change: Change,
+    pub at: usize,
+    pub also: usize,
+    pub mark: u16,
+    pub count: usize,
+    pub letters: usize,
+    pub answer: Written,
+}
+
+// ---- the letters and the refusals
+
+fn letter_for(o: Mode, key: u32, z: Cell) -> u32
+    ensures { λ r. ⌜ r ≡ letterFor o key z ⌝ }
+{
+    match o {
+        Mode::Vietnamese => cells::shown(z),
+        Mode::English => key,
+    }
+}
+
+fn refuse(r: Refusal, n: usize) -> Edit
+    ensures { λ e. ⌜ e ≡ refused r n ⌝ }
+{
+    Edit {
+        change: Change::Nothing,
+        at: 0,
+        also: 0,
+        mark: 0,
+        count: n,
+        letters: 0,
+        answer: Written::Refused(r),
+    }
+}
+
+fn step_edit(s: Step, n: usize, room: usize) -> Edit
+    ensures { λ r. ⌜ r ≡ stepEdit s n room ⌝ }
+{
+    let count = s.count;
+    if LIMIT < count {
+        return refuse(Refusal::Full, n);
+    }
+    if room < count {
+        return refuse(Refusal::Short, n);
+    }
+    let change = s.change;
+    Edit {
+        change: change,
+        at: s.at,
+        also: s.also,
+        mark: s.mark,
+        count: count,
+        letters: count,
+        answer: Written::Wrote(count),
+    }
+}
+
+fn pass_edit(n: usize, room: usize) -> Edit
+    ensures { λ r. ⌜ r ≡ passEdit n room ⌝ }
+{
+    if room < 1 {
+        return refuse(Refusal::Short, n);
+    }
+    Edit {
+        change: Change::Nothing,
+        at: 0,
+        also: 0,
+        mark: 0,
+        count: n,
+        letters: 1,
+        answer: Written::Wrote(1),
+    }
+}
+
+// What the key does. The places lie in the array, and the letters fit into it and into the output.
+fn edit_of(
+    sound: bool,
+    m: InputMethod,
+    o: Mode,
+    row: &[u32],
+    key: u32,
+    n: usize,
+    room: usize,
+) -> Edit
+    requires { ⌜ length (now row) ≤ limit ⌝ }
+    ensures { λ r. ⌜ (r ≡ editOf sound m o (rowCells (now (row .entry))) key n room) × (r .at < limit) × (r .also < limit) × (r .letters ≤ limit) × (r .letters ≤ room) ⌝ }
+{
+    if !sound {
+        return refuse(Refusal::Unsound, n);
+    }
+    if !letters::in_alphabet(key) {
+        return refuse(Refusal::Foreign, n);
+    }
+    match o {
+        Mode::Vietnamese => {
+            let s = step::first_step(m, row, letters::ascii_lower(key));
+            step_edit(s, n, room)
+        }
+        Mode::English => pass_edit(n, room),
+    }
+}
+
+// ---- soundness, without a way out of a loop: 0 for a cell in use that is as soundness asks. Most are ASCII letters alone.
+fn fault(x: Cell) -> u64
+    ensures { λ r. ⌜ (eqb r 0 ≡ isCell x) × (r ≤ 1) ⌝ }
+{
+    if x.base < 128 {
+        if x.mark == 0 {
+            if x.tone == 0 {
+                return 0;
+            }
+        }
+    }
+    if cells::is_cell(x) {
+        return 0;
+    }
+    1
+}
+
+fn at_most(n: usize) -> usize
+    ensures { λ r. ⌜ r ≡ min n limit ⌝ }
+{
+    if n < LIMIT {
+        return n;
+    }
+    LIMIT
+}
+
+fn is_sound(trusted: bool, n: usize, faults: u64) -> bool
+    ensures { λ r. ⌜ r ≡ soundBy trusted n faults ⌝ }
+{
+    if trusted {
+        return true;
+    }
+    if LIMIT < n {
+        return false;
+    }
+    faults == 0
+}
+
+// The owner. Its three loops stand here because a function that is handed the composition copies it: the row and the
+// test of the cells in use, the test of the blank ones, and the text. Where it is trusted the tests are compiled away.
+fn compose(mut c: Composition, key: u32, out: &mut [u32], trusted: bool) -> Keyed
+    requires { ⌜ (trusted ≡ true → isSound c ≡ true) ⌝ }
+    ensures { λ r. ⌜ (r ≡ keyed c key (now (out .entry))) × (now (out .exit) ≡ keyOut c key (now (out .entry))) ⌝ }
+{
+    let n = c.count;
+    let used = at_most(n);
+    let mut bases = [0u32; LIMIT];
+    let mut faults: u64 = 0;
+    let mut i: usize = 0;
+    while i < used {
+        let x = c.cells[i];
+        bases[i] = x.base;
+        faults += fault(x);
+        i += 1;
+    }
+    while i < LIMIT {
+        let x = c.cells[i];
+        faults += cells::weight(x);
+        i += 1;
+    }
+    let sound = is_sound(trusted, n, faults);
+    let m = c.method;
+    let o = c.mode;
+    let e = edit_of(sound, m, o, &bases[0..used], key, n, out.len());
+    let change = e.change;
+    let at = e.at;
+    let also = e.also;
+    let p = step::put_cell(
+        change,
+        e.mark,
+        c.cells[at],
+        c.cells[also],
+        key,
+        letters::ascii_lower(key),
+    );
+    c.cells[at] = p;
+    c.cells[also] = step::also_cell(change, p);
+    c.count = e.count;
+    let count = e.letters;
+    let mut j: usize = 0;
+    while j < count {
+        out[j] = letter_for(o, key, c.cells[j]);
+        j += 1;
+    }
+    let answer = e.answer;
+    Keyed {
+        comp: c,
+        answer: answer,
+    }
+}
+
+pub fn process_key(c: Composition, key: u32, out: &mut [u32]) -> Keyed
+    ensures { λ r. ⌜ (r ≡ keyed c key (now (out .entry))) × (now (out .exit) ≡ keyOut c key (now (out .entry))) ⌝ }
+{
+    compose(c, key, out, false)
+}
+
+// The same without the test of soundness, for a caller that knows it: a loop over keys of our own.
+pub fn process_sound_key(c: Composition, key: u32, out: &mut [u32]) -> Keyed
+    requires { ⌜ isSound c ≡ true ⌝ }
+    ensures { λ r. ⌜ (r ≡ keyed c key (now (out .entry))) × (now (out .exit) ≡ keyOut c key (now (out .entry))) ⌝ }
+{
+    compose(c, key, out, true)
+}

@@ -5,19 +5,30 @@ use mathlib.Core.Bool.{Bool, true, false}
 use mathlib.Core.List.{List, [], _∷_}
 use lib.Dec.{eqb}
 use lib.ListN.{length, getD, set}
-use Rattle.p0_choice.specs.Choice.{pick}
-use Rattle.p2_input_method.specs.Rules.{markFor}
+use Rattle.p0_choice.specs.Choice.{pick, among}
+use Rattle.p2_input_method.specs.Rules.{markRules, markFor}
+use Rattle.p2_input_method.specs.declared.MarkRule.{MarkRule}
 use Rattle.p2_input_method.specs.declared.InputMethod.{InputMethod}
 use Rattle.p3_cells.specs.Cells.{blank}
 use Rattle.p3_cells.specs.declared.Cell.{Cell}
-use Rattle.p3_marks.specs.Uo.{Place, none, at, baseAt}
+use Rattle.p3_marks.specs.Uo.{baseAt}
+use Rattle.p3_marks.specs.declared.Place.{Place}
+use Rattle.p3_marks.specs.declared.Place.the-variants.{Nowhere, At}
 use Rattle.p3_marks.specs.Ua.{marked}
+
+-- the keys of mark rules
+unfoldable pub markKeys : List MarkRule → List ℕ
+markKeys [] = []
+markKeys (r ∷ rs) = r .key ∷ markKeys rs
+
+unfoldable pub isMarkKey : InputMethod → ℕ → Bool
+isMarkKey m k = among k (markKeys (markRules m))
 
 -- with i cells at hand, of which the last is looked at; n may be
 unfoldable pub markBack : InputMethod → List Cell → ℕ → ℕ → ℕ → Place
-markBack m cs k zero i = none
-markBack m cs k (suc n) zero = none
-markBack m cs k (suc n) (suc i) = pick (eqb (markFor m (baseAt cs i) k) 0) (markBack m cs k n i) (at i)
+markBack m cs k zero i = Nowhere
+markBack m cs k (suc n) zero = Nowhere
+markBack m cs k (suc n) (suc i) = pick (eqb (markFor m (baseAt cs i) k) 0) (markBack m cs k n i) (At i)
 
 unfoldable pub markPlace : InputMethod → List Cell → ℕ → Place
 markPlace m cs k = markBack m cs k 5 (length cs)

@@ -7,7 +7,9 @@ use lib.ListN.{length, getD, set}
 use Rattle.p0_choice.specs.Choice.{pick}
 use Rattle.p3_cells.specs.Cells.{blank}
 use Rattle.p3_cells.specs.declared.Cell.{Cell}
-use Rattle.p3_marks.specs.Uo.{Place, none, at, baseAt}
+use Rattle.p3_marks.specs.Uo.{baseAt}
+use Rattle.p3_marks.specs.declared.Place.{Place}
+use Rattle.p3_marks.specs.declared.Place.the-variants.{Nowhere, At}
 
 -- "no q before": there is no cell before, or its base is no q
 unfoldable pub afterQ : List Cell → ℕ → Bool
@@ -17,9 +19,9 @@ afterQ cs (suc i) = eqb (baseAt cs i) 113
 -- the place of the u
 unfoldable pub uaPlace : List Cell → Place
 uaPlace cs =
-    pick (ltb (length cs) 2) none
+    pick (ltb (length cs) 2) Nowhere
     (pick (eqb (baseAt cs (length cs - 2)) 117)
-    (pick (eqb (baseAt cs (length cs - 1)) 97) (pick (afterQ cs (length cs - 2)) none (at (length cs - 2))) none) none)
+    (pick (eqb (baseAt cs (length cs - 1)) 97) (pick (afterQ cs (length cs - 2)) Nowhere (At (length cs - 2))) Nowhere) Nowhere)
 
 -- a cell with a letter as its base and mark, tone and flag kept
 unfoldable pub marked : Cell → ℕ → Cell

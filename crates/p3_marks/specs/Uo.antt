@@ -9,11 +9,8 @@ use Rattle.p1_letters.specs.Alphabet.{asciiLower}
 use Rattle.p1_letters.specs.Vowels.{isVowel}
 use Rattle.p3_cells.specs.Cells.{blank}
 use Rattle.p3_cells.specs.declared.Cell.{Cell}
-
--- what a step finds: nothing, or the place of the cell that it changes
-pub data Place : Type 0 where
-  none : Place
-  at : ℕ → Place
+use Rattle.p3_marks.specs.declared.Place.{Place}
+use Rattle.p3_marks.specs.declared.Place.the-variants.{Nowhere, At}
 
 -- "every base .. read, in ASCII lower case"
 unfoldable pub baseAt : List Cell → ℕ → ℕ
@@ -22,12 +19,12 @@ baseAt cs i = asciiLower (getD cs i blank .base)
 -- "From the last cell back, at most 5 cells and never the first cell, by base: an o after a u makes the pair .. Any other
 -- vowel ends the step." With i cells at hand, of which the last is looked at, n more may be; the place is the u's.
 unfoldable pub uoBack : List Cell → ℕ → ℕ → Place
-uoBack cs zero i = none
-uoBack cs (suc n) zero = none
-uoBack cs (suc n) (suc zero) = none
+uoBack cs zero i = Nowhere
+uoBack cs (suc n) zero = Nowhere
+uoBack cs (suc n) (suc zero) = Nowhere
 uoBack cs (suc n) (suc (suc i)) =
-    pick (eqb (baseAt cs (suc i)) 111) (pick (eqb (baseAt cs i) 117) (at i) none)
-    (pick (isVowel (baseAt cs (suc i))) none (uoBack cs n (suc i)))
+    pick (eqb (baseAt cs (suc i)) 111) (pick (eqb (baseAt cs i) 117) (At i) Nowhere)
+    (pick (isVowel (baseAt cs (suc i))) Nowhere (uoBack cs n (suc i)))
 
 unfoldable pub uoPlace : List Cell → Place
 uoPlace cs = uoBack cs 5 (length cs)

@@ -52,8 +52,11 @@ pairIn [] a b = false
 pairIn (w ∷ ws) a b = pick (eqb a (getD w 0 0)) (pick (eqb b (getD w 1 0)) true (pairIn ws a b)) (pairIn ws a b)
 
 -- "the bases read q u or g i"
+unfoldable pub glidingPair : ℕ → ℕ → Bool
+glidingPair a b = pairIn (words "qu gi") a b
+
 unfoldable pub glides : List Cell → Bool
-glides s = pairIn (words "qu gi") (lowBase (getD s 0 blank)) (lowBase (getD s 1 blank))
+glides s = glidingPair (lowBase (getD s 0 blank)) (lowBase (getD s 1 blank))
 
 -- "With two or more, where the first stands second in the syllable, and the bases read q u or g i, drop that first."
 unfoldable pub kept : ℕ → List Cell → List ℕ → List ℕ
@@ -61,8 +64,11 @@ kept start s vs =
     pick (ltb (length vs) 2) vs (pick (eqb (getD vs 0 0) (start + 1)) (pick (glides s) (drop 1 vs) vs) vs)
 
 -- "oa oe uy iê yê uô ươ io uâ uê uơ"
+unfoldable pub risingPair : ℕ → ℕ → Bool
+risingPair a b = pairIn (words "oa oe uy iê yê uô ươ io uâ uê uơ") a b
+
 unfoldable pub rises : Cell → Cell → Bool
-rises x y = pairIn (words "oa oe uy iê yê uô ươ io uâ uê uơ") (lowLetter x) (lowLetter y)
+rises x y = risingPair (lowLetter x) (lowLetter y)
 
 -- "One left: it. Else, if the last two are [these]: the last. Else the second of three or more, the first of two."
 unfoldable pub chosen : List Cell → List ℕ → ℕ

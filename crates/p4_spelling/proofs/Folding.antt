@@ -1,5 +1,5 @@
 -- The word in lower case without tones, a letter at a time, into an array of 8: no longer word is accepted.
-use Prim.Native.Nat.{ℕ, suc, _+_, _-_, _≤_, _<_}
+use Prim.Native.Nat.{ℕ, zero, suc, _+_, _-_, _≤_, _<_}
 use mathlib.Core.Path.{_≡_, refl, sym, ap, ap₂, _∙_}
 use mathlib.Core.Bool.{Bool, true, false}
 use mathlib.Core.List.{List, [], _∷_, _++_, map, append-nil}
@@ -7,33 +7,44 @@ use native.Mathlib.Omega.{arith}
 use native.Mathlib.Numerals.{add-one}
 use lib.Dec.{T}
 use lib.ListN.{length, take, drop, getD, set, length-set, length-map, drop-of-length-le}
-use lib.Seq.{drop-cons, take-suc-set, append-snoc}
-use Rattle.p0_choice.specs.Choice.{pick, among}
-use Rattle.p0_choice.specs.Text.{word}
+use lib.Seq.{drop-cons, take-suc-set, append-snoc, getD-take}
+use Rattle.p0_choice.specs.Choice.{pick}
+use Rattle.p0_choice.specs.Text.{word, words, wordsFrom}
 use Rattle.p1_letters.specs.Alphabet.{lower}
 use Rattle.p1_letters.specs.Tones.{toneOff}
-use Rattle.p4_rows.specs.Rows.{Word}
+use Rattle.p4_rows.specs.Rows.{Word, onsetRows}
+use Rattle.p4_rows.specs.Lookup.{sameWord, inList, rowsFrom, rowsOf, listed}
+use Rattle.p4_spelling.specs.Cut.{beforeVowel, vowelRun, startsGlued, onsetEnd, onsetOf, vowelsOf}
 use Rattle.p4_spelling.specs.Verdict.{hasForeign, fits, lowered, toneless, verdict}
 use Rattle.p4_spelling.proofs.Parts.{fits-short}
+use Rattle.p4_spelling.proofs.Letters.{foreign-kept, fits-foreign, first-foreign}
 
--- the first i letters are in the array, and none of them was f j w z
+-- the first i letters are in the array
 pub record Folded (w plain : Word) (i : ℕ) : Type 0 where
   pub within : i ≤ length w
   pub eight : length plain ≡ 8
-  pub clean : hasForeign (lowered w) ≡ hasForeign (lowered (drop i w))
   pub is : toneless (lowered w) ≡ take i plain ++ toneless (lowered (drop i w))
 
 long-form : (w : Word) → length (toneless (lowered w)) ≡ length w
 unfolding toneless lowered
 long-form w = length-map (map lower w) toneOff ∙ length-map w lower
 
-by-form : (w : Word) (b : Bool) → fits (toneless (lowered w)) ≡ b → hasForeign (lowered w) ≡ false → b ≡ verdict w
+-- by the form alone: the verdict is what the rows say, but for a z
+by-form : (w : Word) (b : Bool) → (getD (toneless (lowered w)) 0 0 ≡ 0x7a → ⊥) → b ≡ fits (toneless (lowered w)) → b ≡ verdict w
 unfolding verdict
-by-form w b e f = sym (rw f e)
+by-form w b n e = e ∙ go (fits (toneless (lowered w))) refl (hasForeign (lowered w)) refl
+  where
+    go : (f : Bool) → fits (toneless (lowered w)) ≡ f → (g : Bool) → hasForeign (lowered w) ≡ g → f ≡ pick g false f
+    go true p true q =
+        let c : hasForeign (toneless (lowered w)) ≡ false = fits-foreign (toneless (lowered w)) (rw p tt) n in
+        sym (sym c ∙ foreign-kept w ∙ q)
+    go true p false q = refl
+    go false p true q = refl
+    go false p false q = refl
 
-by-foreign : (w : Word) → hasForeign (lowered w) ≡ true → false ≡ verdict w
+by-foreign : (w : Word) → getD (toneless (lowered w)) 0 0 ≡ 0x7a → false ≡ verdict w
 unfolding verdict
-by-foreign w f = sym (rw f refl)
+by-foreign w z = rw (sym (foreign-kept w) ∙ first-foreign (toneless (lowered w)) z)
 
 either-way : (w : Word) → (T (fits (toneless (lowered w))) → ⊥) → false ≡ verdict w
 unfolding verdict
@@ -48,10 +59,6 @@ pub too-long : (w : Word) → 8 < length w → false ≡ verdict w
 too-long w h =
     either-way w (λ (t : T (fits (toneless (lowered w)))). let s : length (toneless (lowered w)) ≤ 8 = fits-short (toneless (lowered w)) t in omega (arith, long-form w))
 
-foreign-cons : (x : ℕ) (w : Word) → hasForeign (lowered (x ∷ w)) ≡ pick (among (lower x) (word "fjwz")) true (hasForeign (lowered w))
-unfolding hasForeign lowered
-foreign-cons x w = refl
-
 form-cons : (x : ℕ) (w : Word) → toneless (lowered (x ∷ w)) ≡ toneOff (lower x) ∷ toneless (lowered w)
 unfolding toneless lowered
 form-cons x w = refl
@@ -60,40 +67,49 @@ form-nil : toneless (lowered []) ≡ []
 unfolding toneless lowered
 form-nil = refl
 
-foreign-nil : hasForeign (lowered []) ≡ false
-unfolding hasForeign lowered
-foreign-nil = refl
+empty-no : false ≡ verdict []
+unfolding verdict hasForeign lowered toneless fits vowelsOf onsetOf onsetEnd startsGlued beforeVowel vowelRun listed rowsOf rowsFrom inList sameWord onsetRows word words wordsFrom
+empty-no = refl
 
 pub begin : (w plain : Word) → length plain ≡ 8 → Folded w plain 0
-begin w plain e = record { within = omega arith; eight = e; clean = refl; is = refl }
+begin w plain e = record { within = omega arith; eight = e; is = refl }
 
 module _ (w plain : Word) (i : ℕ) (k : Folded w plain i) where
-  module _ (l : i < length w) (x : ℕ) (f : Bool) (ex : x ≡ lower (getD w i 0)) (ef : f ≡ among x (word "fjwz")) where
-    here : hasForeign (lowered w) ≡ pick f true (hasForeign (lowered (drop (suc i) w)))
-    here =
-        k .clean ∙ ap (λ (u : Word). hasForeign (lowered u)) (drop-cons w i 0 l) ∙ foreign-cons (getD w i 0) (drop (suc i) w)
-        ∙ ap (λ (b : Bool). pick b true (hasForeign (lowered (drop (suc i) w)))) (sym (ef ∙ ap (λ (y : ℕ). among y (word "fjwz")) ex))
+  pub fold-on : (x y : ℕ) → i < length w → x ≡ lower (getD w i 0) → y ≡ toneOff x → i < 8 → Folded w (set plain i y) (i + 1)
+  fold-on x y l ex ey s = record {
+    within = omega arith;
+    eight = length-set plain i y ∙ k .eight;
+    is =
+        k .is ∙ ap (λ (u : Word). take i plain ++ toneless (lowered u)) (drop-cons w i 0 l)
+        ∙ ap (λ (u : Word). take i plain ++ u) (form-cons (getD w i 0) (drop (suc i) w) ∙ ap (λ (z : ℕ). z ∷ toneless (lowered (drop (suc i) w))) (sym (ey ∙ ap toneOff ex)))
+        ∙ sym (append-snoc (take i plain) y (toneless (lowered (drop (suc i) w))))
+        ∙ rw (add-one i) (ap (λ (u : Word). u ++ toneless (lowered (drop (suc i) w))) (sym (take-suc-set plain i y (omega (arith, k .eight)))));
+  }
 
-    pub found-foreign : f ≡ true → false ≡ verdict w
-    found-foreign t = by-foreign w (here ∙ rw t)
+  -- all letters are in the array
+  module _ (l : length w ≤ i) where
+    whole : toneless (lowered w) ≡ take i plain
+    whole =
+        k .is ∙ ap (λ (u : Word). take i plain ++ toneless (lowered u)) (drop-of-length-le w l)
+        ∙ ap (λ (u : Word). take i plain ++ u) form-nil ∙ append-nil (take i plain)
 
-    pub fold-on : f ≡ false → (y : ℕ) → y ≡ toneOff x → i < 8 → Folded w (set plain i y) (i + 1)
-    fold-on t y ey s = record {
-      within = omega arith;
-      eight = length-set plain i y ∙ k .eight;
-      clean = here ∙ rw (t, add-one i);
-      is =
-          k .is ∙ ap (λ (u : Word). take i plain ++ toneless (lowered u)) (drop-cons w i 0 l)
-          ∙ ap (λ (u : Word). take i plain ++ u) (form-cons (getD w i 0) (drop (suc i) w) ∙ ap (λ (z : ℕ). z ∷ toneless (lowered (drop (suc i) w))) (sym (ey ∙ ap toneOff ex)))
-          ∙ sym (append-snoc (take i plain) y (toneless (lowered (drop (suc i) w))))
-          ∙ rw (add-one i) (ap (λ (u : Word). u ++ toneless (lowered (drop (suc i) w))) (sym (take-suc-set plain i y (omega (arith, k .eight)))));
-    }
+    pub begins-z : getD plain 0 0 ≡ 0x7a → false ≡ verdict w
+    begins-z z = go w refl
+      where
+        go : (u : Word) → w ≡ u → false ≡ verdict w
+        go [] e = rw e empty-no
+        go (x ∷ u) e =
+            by-foreign w (ap (λ (v : Word). getD v 0 0) whole ∙ getD-take i plain 0 0 (omega (arith, ap length e)) ∙ z)
 
-  pub folded : (r : Bool) → length w ≤ i → r ≡ fits (take (length w - 0) plain) → r ≡ verdict w
-  folded r l e =
-      let n : length w - 0 ≡ i = omega (arith, k .within) in
-      let d : drop i w ≡ [] = drop-of-length-le w l in
-      let g : toneless (lowered w) ≡ take i plain =
-      k .is ∙ ap (λ (u : Word). take i plain ++ toneless (lowered u)) d ∙ ap (λ (u : Word). take i plain ++ u) form-nil ∙ append-nil (take i plain) in
-      by-form w r (ap fits g ∙ ap (λ (m : ℕ). fits (take m plain)) (sym n) ∙ sym e)
-      (k .clean ∙ ap (λ (u : Word). hasForeign (lowered u)) d ∙ foreign-nil)
+    pub folded : (r : Bool) → (getD plain 0 0 ≡ 0x7a → ⊥) → r ≡ fits (take (length w - 0) plain) → r ≡ verdict w
+    folded r n e =
+        let m : length w - 0 ≡ i = omega (arith, k .within) in
+        by-form w r (λ (z : getD (toneless (lowered w)) 0 0 ≡ 0x7a). n (not-here z)) (e ∙ rw (m, whole))
+      where
+        not-here : getD (toneless (lowered w)) 0 0 ≡ 0x7a → getD plain 0 0 ≡ 0x7a
+        not-here z = at plain i (ap (λ (v : Word). getD v 0 0) (sym whole) ∙ z)
+          where
+            at : (v : Word) (j : ℕ) → getD (take j v) 0 0 ≡ 0x7a → getD v 0 0 ≡ 0x7a
+            at v zero q = absurd (omega arith)
+            at [] (suc j) q = absurd (omega arith)
+            at (y ∷ v) (suc j) q = q

@@ -6,7 +6,7 @@ use mathlib.Core.Logic.{_⊎_, inl, inr, ⊎-elim}
 use mathlib.Core.Bool.{Bool, true, false}
 use mathlib.Core.List.{List, [], _∷_, _++_, map}
 use native.Mathlib.Omega.{arith}
-use lib.Dec.{T, ltb, leb, eqb}
+use lib.Dec.{T, ltb, leb, eqb, eqb→eq}
 use lib.ListN.{getD}
 use borrow.Author.Tests.{ltb-true, ltb-false, leb-true, eqb-true, eqb-false}
 use Rattle.p0_choice.specs.Choice.{pick, among, each, count, same}
@@ -155,13 +155,87 @@ pub letter-plain : (x : ℕ) → Stays x → plainLetter x ≡ x
 unfolding plainLetter
 letter-plain x s = ap toneOff (s .low) ∙ s .off
 
+alike : (b c : Bool) → b ≡ c → same b c ≡ true
+alike true c e = sym e
+alike false c e = rw (← e)
+
+-- ---- f j w z: the loss of a tone makes none of another letter
+foreign-letter : ℕ → Bool
+foreign-letter x = same (among (plainLetter x) (word "fjwz")) (among (lower x) (word "fjwz"))
+
+letter-foreign : (x : ℕ) → among (plainLetter x) (word "fjwz") ≡ among (lower x) (word "fjwz")
+unfolding foreign-letter plainLetter touched joined word lower isAsciiCapital smallBy32 smallBy1 smallHigh smallNext toneOff offIn toneRows
+letter-foreign x = same-true (among (plainLetter x) (word "fjwz")) (among (lower x) (word "fjwz")) (every-letter foreign-letter kept tt x)
+  where
+    kept : (y : ℕ) → Stays y → foreign-letter y ≡ true
+    kept y s = alike _ _ (ap (λ (z : ℕ). among z (word "fjwz")) (letter-plain y s ∙ sym (s .low)))
+
+pub foreign-kept : (w : Word) → hasForeign (toneless (lowered w)) ≡ hasForeign (lowered w)
+unfolding lowered toneless plainLetter hasForeign
+foreign-kept [] = refl
+foreign-kept (x ∷ w) = ap₂ (λ (a b : Bool). pick a true b) (letter-foreign x) (foreign-kept w)
+
+-- of the parts of the rows only the onset z has one
+join-foreign : (u w : Word) → hasForeign u ≡ false → hasForeign w ≡ false → hasForeign (u ++ w) ≡ false
+unfolding hasForeign
+join-foreign [] w e f = f
+join-foreign (x ∷ u) w e f = go (among x (word "fjwz")) e (λ q. join-foreign u w q f)
+  where
+    go : (b : Bool) → pick b true (hasForeign u) ≡ false → (hasForeign u ≡ false → hasForeign (u ++ w) ≡ false) → pick b true (hasForeign (u ++ w)) ≡ false
+    go true q g = q
+    go false q g = g q
+
+foreignIsZ : Word → Bool
+foreignIsZ u = pick (hasForeign u) (eqb (getD u 0 0) 0x7a) true
+
+noForeign : Word → Bool
+noForeign u = pick (hasForeign u) false true
+
+no-foreign : (b : Bool) → T (pick b false true) → b ≡ false
+no-foreign true t = absurd t
+no-foreign false t = refl
+
+module _ (u : Word) where
+  onset-foreign : T (inList u (parts onsetRows)) → T (foreignIsZ u)
+  unfolding foreignIsZ hasForeign parts joinedRows onsetRows word words wordsFrom
+  onset-foreign t = each-in foreignIsZ (parts onsetRows) tt u t
+
+  vowels-foreign : T (inList u (parts vowelRows)) → hasForeign u ≡ false
+  unfolding noForeign hasForeign parts joinedRows vowelRows word words wordsFrom
+  vowels-foreign t = no-foreign (hasForeign u) (each-in noForeign (parts vowelRows) tt u t)
+
+  coda-foreign : T (inList u (parts codaRows)) → hasForeign u ≡ false
+  unfolding noForeign hasForeign parts joinedRows codaRows word words wordsFrom
+  coda-foreign t = no-foreign (hasForeign u) (each-in noForeign (parts codaRows) tt u t)
+
+-- a first letter is that of all that follows it
+starts : (o w : Word) (z : ℕ) → T (pick (hasForeign o) (eqb (getD o 0 0) z) true) → (getD (o ++ w) 0 0 ≡ z → ⊥) → hasForeign o ≡ false
+unfolding hasForeign
+starts [] w z t n = refl
+starts (x ∷ o) w z t n = go (hasForeign (x ∷ o)) t
+  where
+    go : (b : Bool) → T (pick b (eqb x z) true) → b ≡ false
+    go true q = absurd (n (eqb→eq x z q))
+    go false q = refl
+
+pub fits-foreign : (u : Word) → T (fits u) → (getD u 0 0 ≡ 0x7a → ⊥) → hasForeign u ≡ false
+unfolding foreignIsZ
+fits-foreign u t n =
+    let p : Parts u = fits-parts u t in
+    let j : onsetOf u ++ (vowelsOf u ++ codaOf u) ≡ u = parts-join u in
+    let o : hasForeign (onsetOf u) ≡ false =
+    starts (onsetOf u) (vowelsOf u ++ codaOf u) 0x7a (onset-foreign (onsetOf u) (p .onset)) (λ (e : getD (onsetOf u ++ (vowelsOf u ++ codaOf u)) 0 0 ≡ 0x7a). n (ap (λ (v : Word). getD v 0 0) (sym j) ∙ e)) in
+    ap hasForeign (sym j)
+    ∙ join-foreign (onsetOf u) (vowelsOf u ++ codaOf u) o (join-foreign (vowelsOf u) (codaOf u) (vowels-foreign (vowelsOf u) (p .vowels)) (coda-foreign (codaOf u) (p .coda)))
+
+pub first-foreign : (u : Word) → getD u 0 0 ≡ 0x7a → hasForeign u ≡ true
+unfolding hasForeign word
+first-foreign [] e = absurd (omega arith)
+first-foreign (x ∷ u) e = rw e
+
 -- ---- the alphabet
 stays-letter : ℕ → Bool
 stays-letter x = same (inAlphabet (plainLetter x)) (inAlphabet x)
-
-pub alike : (b c : Bool) → b ≡ c → same b c ≡ true
-alike true c e = sym e
-alike false c e = rw (← e)
 
 letter-in : (x : ℕ) → inAlphabet (plainLetter x) ≡ inAlphabet x
 unfolding stays-letter plainLetter touched joined word lower isAsciiCapital smallBy32 smallBy1 smallHigh smallNext isSmall isCapital inAlphabet toneOff offIn toneRows

@@ -9,8 +9,7 @@ ghost use Prim.Native.Nat.{_≤_};
 ghost use lib.ListN.{length};
 ghost use mathlib.Core.Bool.{true};
 ghost use lib.Dec.{eqb};
-ghost use Rattle.p0_choice.specs.Choice.{pick, among};
-ghost use Rattle.p0_choice.specs.Text.{word as lettersOf};
+ghost use Rattle.p0_choice.specs.Choice.{pick};
 ghost use Rattle.p4_rows.specs.Rows.{onsetToVowels};
 ghost use Rattle.p4_rows.specs.Lookup.{goTogether};
 ghost use Rattle.p4_rows.specs.Keys.{shown, Below};
@@ -153,16 +152,6 @@ pub fn partition(word: &[u32]) -> Cut
     Cut::At(cut_at(word))
 }
 
-// f j w z.
-fn is_foreign(x: u32) -> bool
-    ensures { λ r. ⌜ r ≡ among x (lettersOf "fjwz") ⌝ }
-{
-    match x {
-        0x66 | 0x6a | 0x77 | 0x7a => true,
-        _ => false,
-    }
-}
-
 // One of the onset's rows goes with one of the vowels', or the onset has no letters. An onset without rows is not
 // listed, and goes with none.
 fn onset_fits(letters: usize, onset: Rows, vowels: Rows) -> bool
@@ -207,7 +196,8 @@ fn fits(word: &[u32]) -> bool
     coda_fits(vowels, &word[b..])
 }
 
-// Whether a word is accepted. No accepted word has over 8 letters.
+// Whether a word is accepted. No accepted word has over 8 letters; and of f j w z, which it may not have, no row has one
+// but the onset z.
 pub fn accepts(word: &[u32]) -> bool
     ensures { λ r. ⌜ r ≡ verdict (now (word .entry)) ⌝ }
 {
@@ -218,12 +208,11 @@ pub fn accepts(word: &[u32]) -> bool
     let mut plain = [0u32; 8];
     let mut i: usize = 0;
     while i < n {
-        let x = letters::lower(word[i]);
-        if is_foreign(x) {
-            return false;
-        }
-        plain[i] = letters::strip_tone(x);
+        plain[i] = letters::strip_tone(letters::lower(word[i]));
         i += 1;
+    }
+    if plain[0] == 0x7a {
+        return false;
     }
     fits(&plain[0..n])
 }

@@ -15,7 +15,7 @@ use Rattle.p1_letters.specs.Alphabet.{lower, isAsciiCapital, smallBy32, smallBy
 use Rattle.p1_letters.specs.Tones.{toneOff, offIn, toneRows}
 use Rattle.p4_rows.specs.Rows.{Word}
 use Rattle.p4_spelling.specs.Verdict.{hasForeign, fits, lowered, toneless, verdict}
-use Rattle.p4_spelling.proofs.Letters.{plainLetter, joined, touched, Stays, every-letter, letter-plain, alike}
+use Rattle.p4_spelling.proofs.Letters.{plainLetter, joined, touched, Stays, every-letter, letter-plain, foreign-kept}
 use Rattle.p5_listing.specs.Listed.{plain}
 
 settles : ℕ → Bool
@@ -37,16 +37,6 @@ letter-toneless x = eqb-true (toneOff (plainLetter x)) (plainLetter x) (every-le
   where
     kept : (y : ℕ) → Stays y → toneless-letter y ≡ true
     kept y s = eq-eqb (toneOff (plainLetter y)) (plainLetter y) (ap toneOff (letter-plain y s) ∙ s .off ∙ sym (letter-plain y s))
-
-foreign-letter : ℕ → Bool
-foreign-letter x = same (among (plainLetter x) (word "fjwz")) (among (lower x) (word "fjwz"))
-
-letter-foreign : (x : ℕ) → among (plainLetter x) (word "fjwz") ≡ among (lower x) (word "fjwz")
-unfolding foreign-letter plainLetter touched joined word lower isAsciiCapital smallBy32 smallBy1 smallHigh smallNext toneOff offIn toneRows
-letter-foreign x = same-true (among (plainLetter x) (word "fjwz")) (among (lower x) (word "fjwz")) (every-letter foreign-letter kept tt x)
-  where
-    kept : (y : ℕ) → Stays y → foreign-letter y ≡ true
-    kept y s = alike _ _ (ap (λ (z : ℕ). among z (word "fjwz")) (letter-plain y s ∙ sym (s .low)))
 
 cons-both : {x y : ℕ} {u w : Word} → x ≡ y → u ≡ w → x ∷ u ≡ y ∷ w
 cons-both e f = ap₂ (λ (a : ℕ) (b : Word). a ∷ b) e f
@@ -83,9 +73,8 @@ unfoldable pub core : Word → Bool
 core u = pick (hasForeign u) false (fits u)
 
 foreign-form : (w : Word) → hasForeign (plain w) ≡ hasForeign (lowered w)
-unfolding plain lowered toneless plainLetter hasForeign
-foreign-form [] = refl
-foreign-form (x ∷ w) = ap₂ (λ (a b : Bool). pick a true b) (letter-foreign x) (foreign-form w)
+unfolding plain
+foreign-form w = foreign-kept w
 
 pub verdict-core : (w : Word) → verdict w ≡ core (plain w)
 unfolding verdict core plain

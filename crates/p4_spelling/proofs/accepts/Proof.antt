@@ -1,7 +1,7 @@
 use borrow.Author.Needs.{needs}
 use Prim.Native.Nat.{_-_, _≤_}
 use lib.ListN.{length}
-use Rattle.p4_spelling.proofs.Folding.{Folded, too-long, begin, found-foreign, fold-on, folded}
+use Rattle.p4_spelling.proofs.Folding.{Folded, too-long, begin, fold-on, begins-z, folded}
 use Rattle.p4_spelling.proofs.accepts.Statement.{statement}
 use Rattle.p4_spelling.proofs.accepts.Tie as tie
 
@@ -11,10 +11,10 @@ Inv-loop word n plain₀ i₀ plain i = (length word ≤ 8) × Folded word plain
 abbrev μ-loop : tie.MeasureT-loop
 μ-loop word n plain₀ i₀ plain i = n - i
 
-ruleset answers = (needs, too-long, begin, found-foreign, fold-on, folded)
+ruleset answers = (needs, too-long, begin, begins-z, folded)
 
 pub accepts-spec : {M : Type 1} → statement M
 accepts-spec =
     tie.close
     (tie.spec Inv-loop μ-loop
-    (λ c. search answers) (λ c. search answers) (λ c. search answers) (λ c. search answers) (λ c κs. search answers) (λ c κs. search answers) (λ c. search answers) (λ c κs. search answers) (λ c. search answers) (λ c. search answers) (λ c. search answers) (λ c. search answers) (λ c. (search needs, fold-on _ _ _ (c .before .before .before .before .before .before .loop .inv .1) (c .before .before .before .before .before .loop-test .taken) _ _ (c .before .before .before .lower .ensures) (c .before .before .is-foreign .ensures) (c .before .if2 .left) _ (c .strip-tone .ensures) (search needs))) (λ c. search answers) (λ c. search answers) (λ c. search answers) (λ c κs. search answers) (λ c. search answers))
+    (λ c. search answers) (λ c. search answers) (λ c. search answers) (λ c. search answers) (λ c κs. search answers) (λ c κs. search answers) (λ c. search answers) (λ c. search answers) (λ c. search answers) (λ c. search answers) (λ c. (search needs, fold-on _ _ _ (c .before .before .before .before .loop .inv .1) _ _ (c .before .before .before .loop-test .taken) (c .before .lower .ensures) (c .strip-tone .ensures) (search needs))) (λ c. search answers) (λ c. search answers) (λ c. search answers) (λ c. search answers) (λ c. search answers) (λ c κs. search answers) (λ c. search answers))

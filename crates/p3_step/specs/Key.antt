@@ -4,20 +4,22 @@ use mathlib.Core.Bool.{Bool, true, false}
 use mathlib.Core.List.{List, [], _∷_, _++_}
 use lib.ListN.{length, getD, set}
 use Rattle.p0_choice.specs.Choice.{pick}
-use Rattle.p1_letters.specs.Alphabet.{isCapital, asciiLower}
+use Rattle.p1_letters.specs.Alphabet.{asciiLower}
 use Rattle.p2_input_method.specs.Rules.{isToneKey, isHornKey}
 use Rattle.p2_input_method.specs.declared.InputMethod.{InputMethod}
-use Rattle.p3_cells.specs.Cells.{blank}
+use Rattle.p3_cells.specs.Cells.{blank, typed}
 use Rattle.p3_cells.specs.declared.Cell.{Cell}
 use Rattle.p3_place.specs.Place.{anyVowel, tonePlace}
-use Rattle.p3_marks.specs.Uo.{Place, none, at, uoPlace, uoMade}
+use Rattle.p3_marks.specs.Uo.{uoPlace, uoMade}
 use Rattle.p3_marks.specs.Ua.{uaPlace, uaMade}
 use Rattle.p3_marks.specs.Mark.{markPlace, markMade}
+use Rattle.p3_marks.specs.declared.Place.{Place}
+use Rattle.p3_marks.specs.declared.Place.the-variants.{Nowhere, At}
 
 -- the cells after a step, or what the later steps make of them
 abbrev pub stepOr : Place → (ℕ → List Cell) → List Cell → List Cell
-stepOr none made later = later
-stepOr (at i) made later = made i
+stepOr Nowhere made later = later
+stepOr (At i) made later = made i
 
 -- *Tone.* "The tone is set on one cell, and only there."
 unfoldable pub withTone : Cell → ℕ → Cell
@@ -28,7 +30,7 @@ toneMade cs k = set cs (tonePlace cs) (withTone (getD cs (tonePlace cs) blank) k
 
 -- *Append* "the letter as typed, flag on if capital."
 unfoldable pub appended : List Cell → ℕ → List Cell
-appended cs key = cs ++ (record { base = key; mark = 0; tone = 0; upper = isCapital key } ∷ [])
+appended cs key = cs ++ (typed key ∷ [])
 
 -- *Mark*, else *Append*; k is the key in ASCII lower case
 unfoldable pub markOrLater : InputMethod → List Cell → ℕ → ℕ → List Cell

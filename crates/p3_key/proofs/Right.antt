@@ -1,0 +1,240 @@
+-- What the owner does is document 01's key call: the answer, the composition and the output that an edit leaves are those
+-- of the definitions.
+use Prim.Native.Nat.{ℕ, zero, suc, _+_, _-_, _<_, _≤_}
+use mathlib.Core.Path.{_≡_, refl, sym, ap, _∙_}
+use mathlib.Core.Bool.{Bool, true, false}
+use mathlib.Core.List.{List, [], _∷_, _++_, map}
+use native.Mathlib.Omega.{arith}
+use lib.Dec.{ltb}
+use lib.ListN.{length, getD, take, drop, set, length-append, length-map}
+use lib.Seq.{set-getD, take-append-seam}
+use borrow.Author.Tests.{le-ltb, lt-ltb, ltb-true, ltb-false}
+use Rattle.p0_choice.specs.Choice.{pick, each}
+use Rattle.p0_refusals.specs.declared.Refusal.{Refusal}
+use Rattle.p0_refusals.specs.declared.Refusal.the-variants.{Foreign, Full, Short, Unsound}
+use Rattle.p1_letters.specs.Alphabet.{inAlphabet, asciiLower}
+use Rattle.p3_cells.specs.Cells.{limit, blank, blanks, isCell, isSound, used, holding}
+use Rattle.p3_cells.specs.Text.{shown, textOf}
+use Rattle.p3_cells.specs.Written.{unless}
+use Rattle.p3_cells.specs.declared.Cell.{Cell}
+use Rattle.p3_cells.specs.declared.Composition.{Composition}
+use Rattle.p3_cells.specs.declared.Mode.{Mode}
+use Rattle.p3_cells.specs.declared.Mode.the-variants.{Vietnamese, English}
+use Rattle.p3_cells.specs.declared.Written.{Written}
+use Rattle.p3_cells.specs.declared.Written.the-variants.{Wrote, Refused}
+use Rattle.p3_cells.proofs.Holding.{length-blanks, count-fits, used-length, used-cells, holding-used}
+use Rattle.p3_row.specs.Row.{rowCells, bases}
+use Rattle.p3_step.specs.Key.{keyCells}
+use Rattle.p3_step.specs.Step.{stepOf, putCell, alsoCell}
+use Rattle.p3_step.specs.declared.Change.the-variants.{Nothing}
+use Rattle.p3_step.specs.declared.Step.{Step}
+use Rattle.p3_step.proofs.Makes.{stored, Makes, step-makes}
+use Rattle.p3_step.proofs.Same.{step-same}
+use Rattle.p3_key.specs.Process.{inMode, next, written, isFull, keyAnswer, keyComposition, keyOut, keyed}
+use Rattle.p3_key.specs.Edit.{letterFor, refused, stepEdit, passEdit, editOf}
+use Rattle.p3_key.specs.declared.Edit.{Edit}
+use Rattle.p3_key.proofs.Letters.{lettersTo}
+
+-- ---- what an edit leaves
+abbrev pub putEdit : Edit → List Cell → ℕ → Cell
+putEdit e cells key = putCell (e .change) (e .mark) (getD cells (e .at) blank) (getD cells (e .also) blank) key (asciiLower key)
+
+unfoldable pub edited : Composition → Edit → ℕ → Composition
+edited c e key =
+    record { cells = set (set (c .cells) (e .at) (putEdit e (c .cells) key)) (e .also) (alsoCell (e .change) (putEdit e (c .cells) key)); method = c .method; mode = c .mode; count = e .count }
+
+pub record Right (c : Composition) (key : ℕ) (o : List ℕ) (e : Edit) : Type 0 where
+  pub comp : edited c e key ≡ keyComposition c key (length o)
+  pub answer : e .answer ≡ keyAnswer c key (length o)
+  pub out : lettersTo (c .mode) key (edited c e key .cells) (e .letters) o ≡ keyOut c key o
+
+-- ---- nothing changes
+same-cells : (c : Composition) → set (set (c .cells) 0 (getD (c .cells) 0 blank)) 0 (getD (c .cells) 0 blank) ≡ c .cells
+same-cells c = rw (set-getD (c .cells) 0 blank) (set-getD (c .cells) 0 blank)
+
+refused-right : (c : Composition) (key : ℕ) (o : List ℕ) (r : Refusal) → keyAnswer c key (length o) ≡ Refused r → Right c key o (refused r (c .count))
+unfolding edited putCell alsoCell lettersTo keyComposition keyOut
+refused-right c key o r e =
+    record {
+      comp = rw (same-cells c, e) refl;
+      answer = sym e;
+      out = rw e refl;
+    }
+
+-- ---- English mode: the letter passes through
+one-letter : (key : ℕ) (cells : List Cell) → 0 < length cells → map (letterFor English key) (take 1 cells) ≡ key ∷ []
+unfolding letterFor
+one-letter key [] h = absurd (omega arith)
+one-letter key (x ∷ xs) h = refl
+
+pass-right : (c : Composition) (key : ℕ) (o : List ℕ) → 0 < length (c .cells) → c .mode ≡ English → keyAnswer c key (length o) ≡ Wrote 1
+    → Right c key o (record { change = Nothing; at = 0; also = 0; mark = 0; count = c .count; letters = 1; answer = Wrote 1 })
+unfolding edited putCell alsoCell lettersTo keyComposition keyOut written
+pass-right c key o h m e =
+    record {
+      comp = rw (same-cells c, e, m) refl;
+      answer = sym e;
+      out = rw (same-cells c, e, m, one-letter key (c .cells) h) refl;
+    }
+
+-- ---- Vietnamese: the step's cells
+abbrev wrote : Step → Edit
+wrote s = record { change = s .change; at = s .at; also = s .also; mark = s .mark; count = s .count; letters = s .count; answer = Wrote (s .count) }
+
+blanks-less : (n k : ℕ) → drop k (blanks n) ≡ blanks (n - k)
+blanks-less n zero = let d : n - 0 ≡ n = omega arith in rw d refl
+blanks-less zero (suc k) = let d : 0 - suc k ≡ 0 = omega arith in rw d refl
+blanks-less (suc n) (suc k) = let d : suc n - suc k ≡ n - k = omega arith in rw d (blanks-less n k)
+
+module _ (c : Composition) (s : isSound c ≡ true) (n : length (c .cells) ≡ limit) where
+  parted : c .cells ≡ used c ++ blanks (limit - length (used c))
+  unfolding holding
+  parted = ap (λ (d : Composition). d .cells) (holding-used c s n)
+
+  module _ (xs : List Cell) (key : ℕ) (t : Step) (h : Makes t (used c) xs key (asciiLower key)) (l : length xs ≤ limit) where
+    step-cells : stored t (c .cells) key (asciiLower key) ≡ xs ++ blanks (limit - length xs)
+    step-cells =
+        let u = used-length c s n in
+        let f = count-fits c s in
+        let g = h .count in
+        let v = h .grows in
+        let b : length (blanks (limit - length (used c))) ≡ limit - length (used c) = length-blanks (limit - length (used c)) in
+        let d : limit - length (used c) - (t .count - length (used c)) ≡ limit - length xs = omega arith in
+        rw parted (h .cells (blanks (limit - length (used c))) (omega arith) ∙ rw (blanks-less (limit - length (used c)) (t .count - length (used c)), d) refl)
+
+    held : edited c (wrote t) key ≡ holding c xs
+    unfolding edited holding stored
+    held = rw (step-cells, h .count) refl
+
+-- what the definitions say where the answer is a number of letters
+in-vietnamese : {A : Type 0} (m : Mode) (a b : A) → m ≡ Vietnamese → inMode m a b ≡ a
+in-vietnamese m a b e = rw e refl
+
+in-english : {A : Type 0} (m : Mode) (a b : A) → m ≡ English → inMode m a b ≡ b
+in-english m a b e = rw e refl
+
+letters-vietnamese : (m : Mode) (key : ℕ) (xs : List Cell) → m ≡ Vietnamese → map (letterFor m key) xs ≡ textOf xs
+unfolding letterFor textOf
+letters-vietnamese m key xs e = rw e (go xs)
+  where
+    go : (xs : List Cell) → map (letterFor Vietnamese key) xs ≡ map shown xs
+    go [] = refl
+    go (x ∷ xs) = ap (λ (l : List ℕ). shown x ∷ l) (go xs)
+
+module _ (c : Composition) (key : ℕ) (m : c .mode ≡ Vietnamese) where
+  written-vietnamese : written c key ≡ textOf (next c key)
+  unfolding written
+  written-vietnamese = in-vietnamese (c .mode) (textOf (next c key)) (key ∷ []) m
+
+  full-vietnamese : isFull c key ≡ ltb limit (length (next c key))
+  unfolding isFull
+  full-vietnamese = in-vietnamese (c .mode) (ltb limit (length (next c key))) false m
+
+  written-length : length (written c key) ≡ length (next c key)
+  unfolding textOf
+  written-length = rw written-vietnamese (length-map (next c key) shown)
+
+  module _ (o : List ℕ) (k : ℕ) (e : keyAnswer c key (length o) ≡ Wrote k) where
+    comp-vietnamese : keyComposition c key (length o) ≡ holding c (next c key)
+    unfolding keyComposition
+    comp-vietnamese = rw e (in-vietnamese (c .mode) (holding c (next c key)) c m)
+
+    out-vietnamese : keyOut c key o ≡ textOf (next c key) ++ drop (length (next c key)) o
+    unfolding keyOut
+    out-vietnamese = rw (e, written-length, written-vietnamese) refl
+
+front : (c : Composition) (xs : List Cell) → take (length xs) (holding c xs .cells) ≡ xs
+unfolding holding
+front c xs = take-append-seam xs (blanks (limit - length xs))
+
+step-right : (c : Composition) → isSound c ≡ true → length (c .cells) ≡ limit → (key : ℕ) (t : Step) → Makes t (used c) (next c key) key (asciiLower key) → length (next c key) ≤ limit
+    → (o : List ℕ) → c .mode ≡ Vietnamese → keyAnswer c key (length o) ≡ Wrote (t .count) → Right c key o (wrote t)
+unfolding lettersTo
+step-right c s n key t h l o m e =
+    let d = held c s n (next c key) key t h l in
+    record {
+      comp = d ∙ sym (comp-vietnamese c key m o (t .count) e);
+      answer = sym e;
+      out = rw (d, h .count, front c (next c key), letters-vietnamese (c .mode) key (next c key) m) (sym (out-vietnamese c key m o (t .count) e));
+    }
+
+-- ---- the answer, way by way
+module _ (c : Composition) (key n : ℕ) where
+  answer-unsound : isSound c ≡ false → keyAnswer c key n ≡ Refused Unsound
+  unfolding keyAnswer
+  answer-unsound s = rw s refl
+
+  module _ (s : isSound c ≡ true) where
+    answer-foreign : inAlphabet key ≡ false → keyAnswer c key n ≡ Refused Foreign
+    unfolding keyAnswer
+    answer-foreign a = rw (s, a) refl
+
+    module _ (a : inAlphabet key ≡ true) where
+      answer-full : isFull c key ≡ true → keyAnswer c key n ≡ Refused Full
+      unfolding keyAnswer
+      answer-full f = rw (s, a, f) refl
+
+      answer-short : isFull c key ≡ false → n < length (written c key) → keyAnswer c key n ≡ Refused Short
+      unfolding keyAnswer
+      answer-short f l = rw (s, a, f, lt-ltb n (length (written c key)) l) refl
+
+      answer-wrote : isFull c key ≡ false → length (written c key) ≤ n → keyAnswer c key n ≡ Wrote (length (written c key))
+      unfolding keyAnswer
+      answer-wrote f l = rw (s, a, f, le-ltb n (length (written c key)) l) refl
+
+-- ---- the edit of a sound composition and a letter of the alphabet
+module _ (c : Composition) (key : ℕ) (o : List ℕ) (n : length (c .cells) ≡ limit) (s : isSound c ≡ true) (a : inAlphabet key ≡ true) where
+  module _ (m : c .mode ≡ English) where
+    full-english : isFull c key ≡ false
+    unfolding isFull
+    full-english = in-english (c .mode) (ltb limit (length (next c key))) false m
+
+    written-english : length (written c key) ≡ 1
+    unfolding written
+    written-english = rw (in-english (c .mode) (textOf (next c key)) (key ∷ []) m) refl
+
+    english-right : Right c key o (passEdit (c .count) (length o))
+    unfolding passEdit
+    english-right = go (ltb (length o) 1) refl
+      where
+        go : (b : Bool) → ltb (length o) 1 ≡ b
+            → Right c key o (pick b (refused Short (c .count)) (record { change = Nothing; at = 0; also = 0; mark = 0; count = c .count; letters = 1; answer = Wrote 1 }))
+        go true q =
+            let l : length o < length (written c key) = rw written-english (ltb-true (length o) 1 q) in
+            refused-right c key o Short (answer-short c key (length o) s a full-english l)
+        go false q =
+            let l : length (written c key) ≤ length o = rw written-english (ltb-false (length o) 1 q) in
+            pass-right c key o (rw n (omega arith)) m (answer-wrote c key (length o) s a full-english l ∙ ap Wrote written-english)
+
+  module _ (m : c .mode ≡ Vietnamese) (t : Step) (h : Makes t (used c) (next c key) key (asciiLower key)) where
+    vietnamese-right : Right c key o (stepEdit t (c .count) (length o))
+    unfolding stepEdit
+    vietnamese-right = go (ltb limit (t .count)) (ltb (length o) (t .count)) refl refl
+      where
+        go : (b d : Bool) → ltb limit (t .count) ≡ b → ltb (length o) (t .count) ≡ d
+            → Right c key o (pick b (refused Full (c .count)) (pick d (refused Short (c .count)) (wrote t)))
+        go true d p q = refused-right c key o Full (answer-full c key (length o) s a (full-vietnamese c key m ∙ rw (h .count) at p))
+        go false true p q =
+            let l : length o < length (written c key) = rw (written-length c key m, ← h .count) (ltb-true (length o) (t .count) q) in
+            refused-right c key o Short (answer-short c key (length o) s a (full-vietnamese c key m ∙ rw (h .count) at p) l)
+        go false false p q =
+            let l : length (written c key) ≤ length o = rw (written-length c key m, ← h .count) (ltb-false (length o) (t .count) q) in
+            step-right c s n key t h (rw (h .count) at (ltb-false limit (t .count) p)) o m
+            (answer-wrote c key (length o) s a (full-vietnamese c key m ∙ rw (h .count) at p) l ∙ ap Wrote (written-length c key m ∙ sym (h .count)))
+
+-- what the edit leaves is right
+pub edit-right : (c : Composition) (key : ℕ) (o : List ℕ) → length (c .cells) ≡ limit
+    → Right c key o (editOf (isSound c) (c .method) (c .mode) (rowCells (bases (used c))) key (c .count) (length o))
+unfolding editOf next
+edit-right c key o n = go (isSound c) (inAlphabet key) (c .mode) refl refl refl
+  where
+    made : isSound c ≡ true → Makes (stepOf (c .method) (rowCells (bases (used c))) (asciiLower key)) (used c) (keyCells (c .method) (used c) key) key (asciiLower key)
+    made s = rw (step-same (c .method) (used c) (asciiLower key) (used-cells c s n)) (step-makes (c .method) (used c) key)
+
+    go : (s a : Bool) (m : Mode) → isSound c ≡ s → inAlphabet key ≡ a → c .mode ≡ m
+        → Right c key o (pick s (pick a (inMode m (stepEdit (stepOf (c .method) (rowCells (bases (used c))) (asciiLower key)) (c .count) (length o)) (passEdit (c .count) (length o))) (refused Foreign (c .count)))
+        (refused Unsound (c .count)))
+    go false a m e f g = refused-right c key o Unsound (answer-unsound c key (length o) e)
+    go true false m e f g = refused-right c key o Foreign (answer-foreign c key (length o) e f)
+    go true true English e f g = english-right c key o n e f g
+    go true true Vietnamese e f g = vietnamese-right c key o n e f g (stepOf (c .method) (rowCells (bases (used c))) (asciiLower key)) (made e)

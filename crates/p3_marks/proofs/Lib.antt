@@ -1,0 +1,4 @@
+pub mod Base
+pub mod Uo
+pub mod Ua
+pub mod Mark

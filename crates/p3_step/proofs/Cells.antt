@@ -1,0 +1,53 @@
+-- The cells of a step, change by change.
+use Prim.Native.Nat.{ℕ, _%_}
+use mathlib.Core.Path.{_≡_, refl}
+use mathlib.Core.Bool.{Bool, true, false}
+use Rattle.p3_cells.specs.Cells.{typed}
+use Rattle.p3_cells.specs.declared.Cell.{Cell}
+use Rattle.p3_marks.specs.Uo.{hornU, hornO}
+use Rattle.p3_marks.specs.Ua.{marked}
+use Rattle.p3_step.specs.Step.{putCell, alsoCell}
+use Rattle.p3_step.specs.declared.Change.{Change}
+use Rattle.p3_step.specs.declared.Change.the-variants.{Nothing, Tone, Mark, Pair, Append}
+
+module _ (h : Change) (l : ℕ) (x y : Cell) (key k : ℕ) where
+  pub put-nothing : h ≡ Nothing → x ≡ putCell h l x y key k
+  unfolding putCell
+  put-nothing e = rw e refl
+
+  pub put-tone : h ≡ Tone → record { base = x .base; mark = x .mark; tone = k % 256; upper = x .upper } ≡ putCell h l x y key k
+  unfolding putCell
+  put-tone e = rw e refl
+
+  pub put-mark : h ≡ Mark → record { base = l; mark = l; tone = x .tone; upper = x .upper } ≡ putCell h l x y key k
+  unfolding putCell marked
+  put-mark e = rw e refl
+
+  pub put-pair : h ≡ Pair → record { base = 0x1b0; mark = 0x1b0; tone = y .tone; upper = x .upper } ≡ putCell h l x y key k
+  unfolding putCell hornU
+  put-pair e = rw e refl
+
+  pub put-append : (p : Cell) → h ≡ Append → p ≡ typed key → p ≡ putCell h l x y key k
+  unfolding putCell
+  put-append p e q = rw e q
+
+module _ (h : Change) (p : Cell) where
+  pub also-pair : h ≡ Pair → record { base = 0x1a1; mark = 0x1a1; tone = 0; upper = false } ≡ alsoCell h p
+  unfolding alsoCell
+  also-pair e = rw e refl
+
+  pub also-nothing : h ≡ Nothing → p ≡ alsoCell h p
+  unfolding alsoCell
+  also-nothing e = rw e refl
+
+  pub also-tone : h ≡ Tone → p ≡ alsoCell h p
+  unfolding alsoCell
+  also-tone e = rw e refl
+
+  pub also-mark : h ≡ Mark → p ≡ alsoCell h p
+  unfolding alsoCell
+  also-mark e = rw e refl
+
+  pub also-append : h ≡ Append → p ≡ alsoCell h p
+  unfolding alsoCell
+  also-append e = rw e refl

@@ -1,0 +1,43 @@
+-- Cells in use and the row of their bases have their step in common.
+use Prim.Native.Nat.{ℕ, _+_}
+use mathlib.Core.Path.{_≡_, refl}
+use mathlib.Core.Bool.{true}
+use mathlib.Core.List.{List}
+use lib.ListN.{length}
+use Rattle.p0_choice.specs.Choice.{pick, each}
+use Rattle.p2_input_method.specs.Rules.{markFor}
+use Rattle.p2_input_method.specs.declared.InputMethod.{InputMethod}
+use Rattle.p3_cells.specs.Cells.{isCell}
+use Rattle.p3_cells.specs.declared.Cell.{Cell}
+use Rattle.p3_row.specs.Row.{rowCells, bases}
+use Rattle.p3_place.proofs.Same.{any-same, tone-place-same}
+use Rattle.p3_marks.specs.Uo.{baseAt}
+use Rattle.p3_marks.specs.Mark.{markPlace}
+use Rattle.p3_marks.specs.declared.Place.{Place}
+use Rattle.p3_marks.specs.declared.Place.the-variants.{Nowhere, At}
+use Rattle.p3_marks.proofs.Base.{same-base, same-length}
+use Rattle.p3_marks.proofs.Uo.{uo-same}
+use Rattle.p3_marks.proofs.Ua.{ua-same}
+use Rattle.p3_marks.proofs.Mark.{mark-same}
+use Rattle.p3_step.specs.Step.{placeOr, toneFor, uoFor, uaFor, markAt, markStep, uaStep, uoStep, stepOf}
+use Rattle.p3_step.specs.declared.Change.the-variants.{Append}
+use Rattle.p3_step.specs.declared.Step.{Step}
+
+mark-step-same : (m : InputMethod) (cs : List Cell) (k : ℕ) → markStep m (rowCells (bases cs)) k ≡ markStep m cs k
+unfolding markStep
+mark-step-same m cs k = rw (mark-same m cs k) (go (markPlace m cs k))
+  where
+    go : (p : Place)
+        → placeOr p (λ i. markAt (rowCells (bases cs)) (markFor m (baseAt (rowCells (bases cs)) i) k) i)
+        (record { change = Append; at = length (rowCells (bases cs)); also = length (rowCells (bases cs)); mark = 0; count = length (rowCells (bases cs)) + 1 })
+        ≡ placeOr p (λ i. markAt cs (markFor m (baseAt cs i) k) i) (record { change = Append; at = length cs; also = length cs; mark = 0; count = length cs + 1 })
+    go Nowhere = rw (same-length cs) refl
+    go (At i) = rw (same-base cs i, same-length cs) refl
+
+uo-step-same : (m : InputMethod) (cs : List Cell) (k : ℕ) → uoStep m (rowCells (bases cs)) k ≡ uoStep m cs k
+unfolding uoStep uaStep uoFor uaFor
+uo-step-same m cs k = simp (uo-same cs, ua-same cs, same-length cs, mark-step-same m cs k)
+
+pub step-same : (m : InputMethod) (cs : List Cell) (k : ℕ) → each isCell cs ≡ true → stepOf m (rowCells (bases cs)) k ≡ stepOf m cs k
+unfolding stepOf toneFor
+step-same m cs k e = simp (any-same cs e, tone-place-same cs e, same-length cs, uo-step-same m cs k)

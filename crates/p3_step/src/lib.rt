@@ -1,0 +1,195 @@
+// The step of a key (bamboo.rs: process_key), the first that fits, over a lent row of bases: as numbers, since a
+// composition by value would be copied at each step.
+ghost use mathlib.Core.Path.{_≡_};
+ghost use Prim.Native.Nat.{_<_, _≤_};
+ghost use lib.ListN.{length};
+ghost use Rattle.p3_cells.specs.Cells.{limit};
+ghost use Rattle.p3_row.specs.Row.{rowCells};
+ghost use Rattle.p3_step.specs.Step.{toneFor, uoFor, uaFor, markStep, uaStep, uoStep, stepOf, putCell, alsoCell};
+use p1_letters as letters;
+use p2_input_method as input_method;
+use p2_input_method::InputMethod;
+use p3_cells as cells;
+use p3_cells::Cell;
+use p3_marks as marks;
+use p3_marks::Place;
+use p3_place as place;
+
+// What comes at a place: the cell as it is, with a tone, with a mark, the ư of a pair, or a typed letter.
+pub enum Change {
+    Nothing,
+    Tone,
+    Mark,
+    Pair,
+    Append,
+}
+
+// A step as numbers: the place, the place of a pair's ơ (else the same one), the mark, and how many cells there are then.
+pub struct Step {
+    pub change: Change,
+    pub at: usize,
+    pub also: usize,
+    pub mark: u16,
+    pub count: usize,
+}
+
+// ---- the steps, each where the ones before it do not fit
+
+fn mark_step(m: InputMethod, row: &[u32], k: u32) -> Step
+    requires { ⌜ length (now row) ≤ limit ⌝ }
+    ensures { λ r. ⌜ r ≡ markStep m (rowCells (now (row .entry))) k ⌝ }
+{
+    let n = row.len();
+    let f = marks::find_mark_backtrack(m, row, k);
+    match f {
+        Place::At(i) => {
+            let b = letters::ascii_lower(row[i]);
+            let l = input_method::mark_for(m, b, k);
+            Step {
+                change: Change::Mark,
+                at: i,
+                also: i,
+                mark: l,
+                count: n,
+            }
+        }
+        Place::Nowhere => Step {
+            change: Change::Append,
+            at: n,
+            also: n,
+            mark: 0,
+            count: n + 1,
+        },
+    }
+}
+
+fn ua_place(m: InputMethod, row: &[u32], k: u32) -> Place
+    ensures { λ r. ⌜ r ≡ uaFor m (rowCells (now (row .entry))) k ⌝ }
+{
+    if !input_method::is_horn_key(m, k) {
+        return Place::Nowhere;
+    }
+    marks::find_ua(row)
+}
+
+fn ua_step(m: InputMethod, row: &[u32], k: u32) -> Step
+    requires { ⌜ length (now row) ≤ limit ⌝ }
+    ensures { λ r. ⌜ r ≡ uaStep m (rowCells (now (row .entry))) k ⌝ }
+{
+    let f = ua_place(m, row, k);
+    match f {
+        Place::At(i) => Step {
+            change: Change::Mark,
+            at: i,
+            also: i,
+            mark: 0x1b0,
+            count: row.len(),
+        },
+        Place::Nowhere => mark_step(m, row, k),
+    }
+}
+
+fn uo_place(m: InputMethod, row: &[u32], k: u32) -> Place
+    ensures { λ r. ⌜ r ≡ uoFor m (rowCells (now (row .entry))) k ⌝ }
+{
+    if !input_method::is_horn_key(m, k) {
+        return Place::Nowhere;
+    }
+    marks::find_uo(row)
+}
+
+fn uo_step(m: InputMethod, row: &[u32], k: u32) -> Step
+    requires { ⌜ length (now row) ≤ limit ⌝ }
+    ensures { λ r. ⌜ r ≡ uoStep m (rowCells (now (row .entry))) k ⌝ }
+{
+    let f = uo_place(m, row, k);
+    match f {
+        Place::At(i) => Step {
+            change: Change::Pair,
+            at: i,
+            also: i + 1,
+            mark: 0,
+            count: row.len(),
+        },
+        Place::Nowhere => ua_step(m, row, k),
+    }
+}
+
+fn tone_place(m: InputMethod, row: &[u32], k: u32) -> Place
+    requires { ⌜ length (now row) ≤ limit ⌝ }
+    ensures { λ r. ⌜ r ≡ toneFor m (rowCells (now (row .entry))) k ⌝ }
+{
+    if !input_method::is_tone_key(m, k) {
+        return Place::Nowhere;
+    }
+    if !place::any_vowel(row) {
+        return Place::Nowhere;
+    }
+    let i = place::find_tone_position(row);
+    Place::At(i)
+}
+
+pub fn first_step(m: InputMethod, row: &[u32], k: u32) -> Step
+    requires { ⌜ length (now row) ≤ limit ⌝ }
+    ensures { λ r. ⌜ r ≡ stepOf m (rowCells (now (row .entry))) k ⌝ }
+{
+    let f = tone_place(m, row, k);
+    match f {
+        Place::At(i) => Step {
+            change: Change::Tone,
+            at: i,
+            also: i,
+            mark: 0,
+            count: row.len(),
+        },
+        Place::Nowhere => uo_step(m, row, k),
+    }
+}
+
+// ---- the cells of a step
+
+// The cell at the place, where x stands, and y at the other place. A tone key is a byte.
+pub fn put_cell(change: Change, mark: u16, x: Cell, y: Cell, key: u32, k: u32) -> Cell
+    ensures { λ r. ⌜ r ≡ putCell change mark x y key k ⌝ }
+{
+    match change {
+        Change::Nothing => x,
+        Change::Tone => Cell {
+            base: x.base,
+            mark: x.mark,
+            tone: (k % 256) as u8,
+            upper: x.upper,
+        },
+        Change::Mark => Cell {
+            base: mark as u32,
+            mark: mark,
+            tone: x.tone,
+            upper: x.upper,
+        },
+        Change::Pair => Cell {
+            base: 0x1b0,
+            mark: 0x1b0,
+            tone: y.tone,
+            upper: x.upper,
+        },
+        Change::Append => cells::typed(key),
+    }
+}
+
+// The cell at the other place, which is a pair's alone.
+pub fn also_cell(change: Change, p: Cell) -> Cell
+    ensures { λ r. ⌜ r ≡ alsoCell change p ⌝ }
+{
+    match change {
+        Change::Pair => Cell {
+            base: 0x1a1,
+            mark: 0x1a1,
+            tone: 0,
+            upper: false,
+        },
+        Change::Nothing => p,
+        Change::Tone => p,
+        Change::Mark => p,
+        Change::Append => p,
+    }
+}

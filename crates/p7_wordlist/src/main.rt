@@ -1,0 +1,37 @@
+// Prints every listed word, one to a line, in UTF-8 and in order.
+use libc::STDOUT_FILENO;
+use p0_refusals::Answer;
+use p0_slices as slices;
+
+// Writes a word and a line feed; false where it is not written.
+fn print(word: &[u32]) -> bool {
+    let mut bytes = [0u8; 32];
+    let given = p5_utf8_write::write(word, &mut bytes);
+    match given {
+        Answer::Refused(_) => false,
+        Answer::Done(n) => {
+            if 31 < n {
+                return false;
+            }
+            bytes[n] = 10;
+            io::write_all(STDOUT_FILENO, slices::first_bytes(&bytes, n + 1))
+        }
+    }
+}
+
+fn main() {
+    let mut letters = [0u32; 8];
+    let mut n: usize = 0;
+    while n < p5_lister::total() {
+        let given = p5_lister::word_number(n, &mut letters);
+        n += 1;
+        match given {
+            Answer::Refused(_) => return,
+            Answer::Done(len) => {
+                if !print(slices::first(&letters, len)) {
+                    return;
+                }
+            }
+        }
+    }
+}
