@@ -6,6 +6,8 @@ import re
 ROOT = pathlib.Path(__file__).resolve().parent.parent
 
 FN = re.compile(r'^[ \t]*(?P<pub>pub )?(?P<ext>extern "C" )?fn (?P<name>\w+)', re.M)
+# .. up to its clauses or its body
+SIGNATURE = re.compile(r"(?:(?!\s(?:requires|ensures)\b)[^{])*")
 CLAUSE = re.compile(r"\s*(requires|ensures)\b\s*\w*\s*\{")
 # a declaration of antt: a name, perhaps after marks, at the start of a line or inside a module
 NAME = re.compile(r"^ *(?:unfoldable |abbrev |pub )*(?:data |record )?(?P<name>[^\s:()]+)(?: \([^)]*\))* :", re.M)
@@ -18,24 +20,23 @@ def crates(root=ROOT):
         line = line.split("#")[0]
         if ":" in line:
             listed.append(line.split(":")[0].strip())
-    return listed
+    return list(dict.fromkeys(listed))
 
 
 class Function:
-    def __init__(self, crate, path, match, requires, ensures):
+    def __init__(self, crate, match, signature, requires, ensures):
         self.crate = crate
-        self.path = path
         self.name = match["name"]
         self.public = bool(match["pub"])
         self.exported = bool(match["ext"])
+        self.answers = "->" in signature or "&mut" in signature
         self.requires = requires
         self.ensures = ensures
 
 
 def clauses(text, at):
-    """The clauses between a signature and its body, white space folded."""
+    """The clauses that stand at a place before a body, white space folded."""
     found = {"requires": [], "ensures": []}
-    at += re.compile(r"(?:(?!\s(?:requires|ensures)\b)[^{])*").match(text, at).end() - at
     while True:
         match = CLAUSE.match(text, at)
         if not match:
@@ -54,8 +55,9 @@ def functions(crate, root=ROOT):
     for path in sorted((root / "crates" / crate).glob("src/**/*.rt")):
         text = re.sub(r"//[^\n]*", "", path.read_text(encoding="utf-8"))
         for match in FN.finditer(text):
-            said = clauses(text, match.end())
-            found.append(Function(crate, path, match, said["requires"], said["ensures"]))
+            signature = SIGNATURE.match(text, match.end())
+            said = clauses(text, signature.end())
+            found.append(Function(crate, match, signature[0], said["requires"], said["ensures"]))
     return found
 
 
@@ -70,8 +72,14 @@ def names(path):
     return {match["name"] for match in NAME.finditer(path.read_text(encoding="utf-8"))}
 
 
+def laws(crate, root=ROOT):
+    """What the files of laws in proofs/ declare."""
+    return set().union(*(names(path) for path in (root / "crates" / crate).glob("proofs/*.antt")))
+
+
 class Edit:
-    """A wrong answer: `# FUNCTION, ..: the input that it answers wrongly`, perhaps `# untried`, then the replacements."""
+    """A wrong answer: `# FUNCTION, ..: the input that it answers wrongly`, perhaps `# untried`, then the replacements. In
+    the place of a function a law may stand, where the edit is of a definition that the law is about."""
 
     def __init__(self, crate, path, gate):
         self.crate = crate
