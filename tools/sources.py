@@ -29,9 +29,16 @@ class Function:
         self.name = match["name"]
         self.public = bool(match["pub"])
         self.exported = bool(match["ext"])
-        self.answers = "->" in signature or "&mut" in signature
+        self.result = "->" in signature
+        self.lent = re.findall(r"(\w+): &(?:'\w+ )?mut ", signature)
         self.requires = requires
         self.ensures = ensures
+
+    def open_answers(self):
+        """What of the answer has no equation: the result, or what a `&mut` holds at the end."""
+        said = " ".join(self.ensures)
+        found = [] if not self.result or re.search(r"(?<![\w.] )\b(?:now )?r(?: \.[\w«»]+)? ≡ ", said) else ["the result"]
+        return found + [name for name in self.lent if f"now ({name} .exit) ≡ " not in said]
 
 
 def clauses(text, at):
