@@ -3,3 +3,5 @@ pub mod Edits
 pub mod Letters
 pub mod Right
 pub mod Owner
+pub mod Kept
+pub mod Only
