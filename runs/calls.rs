@@ -50,7 +50,7 @@ pub const GUARD_BYTE: u8 = 0xa5;
 pub const GUARD_COUNT: usize = 0xa5a5a5a5;
 
 /// Guarded places on each side of a lent output.
-const MARGIN: usize = 4;
+pub const MARGIN: usize = 4;
 
 /// The number that a call returns, and what it leaves in the one number lent to it.
 #[derive(PartialEq)]
@@ -139,4 +139,36 @@ pub fn write_utf8(letters: &[u32], room: usize) -> Left<u8> {
     Left::of(room, GUARD_BYTE, |output, count| unsafe {
         host::pasdrongel_write_utf8(letters.as_ptr(), letters.len(), output, room, count)
     })
+}
+
+pub fn word(number: usize, room: usize) -> Left<u32> {
+    Left::of(room, GUARD, |output, count| unsafe { host::pasdrongel_word(number, output, room, count) })
+}
+
+pub fn next_word(word: &[u32], room: usize) -> Left<u32> {
+    Left::of(room, GUARD, |output, count| unsafe {
+        host::pasdrongel_next_word(word.as_ptr(), word.len(), output, room, count)
+    })
+}
+
+/// The number that the cut returns, and the two places that it leaves.
+#[derive(PartialEq, Debug)]
+pub struct Places {
+    returns: u32,
+    onset: usize,
+    vowels: usize,
+}
+
+impl Places {
+    pub fn by(answer: Result<(usize, usize), u32>) -> Places {
+        let (returns, (onset, vowels)) =
+            answer.map_or_else(|refusal| (refusal, (GUARD_COUNT, GUARD_COUNT)), |places| (0, places));
+        Places { returns, onset, vowels }
+    }
+
+    pub fn of(word: &[u32]) -> Places {
+        let (mut onset, mut vowels) = (GUARD_COUNT, GUARD_COUNT);
+        let returns = unsafe { host::pasdrongel_cut(word.as_ptr(), word.len(), &mut onset, &mut vowels) };
+        Places { returns, onset, vowels }
+    }
 }
