@@ -11,6 +11,8 @@ pub const ROOM: usize = 64;
 /// The keys, with a RESET wherever a host of this habit starts a fresh composition.
 pub struct Habit {
     pub keys: Vec<u32>,
+    /// The same for the Rust.
+    #[cfg_attr(not(engine), allow(dead_code))]
     pub chars: Vec<char>,
     /// How many of them are typed: all but the RESETs.
     pub typed: usize,

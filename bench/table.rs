@@ -10,7 +10,7 @@ pub type Times = HashMap<&'static str, Vec<f64>>;
 /// For each side of a figure the instructions a unit.
 pub type Counts = HashMap<(String, String), f64>;
 
-/// The best and the middle of the repetitions.
+/// The best of a side's repetitions, and the one in the middle.
 struct Summary {
     best: f64,
     middle: f64,
@@ -20,6 +20,10 @@ fn summary(times: &Times, side: &str) -> Option<Summary> {
     let mut taken = times.get(side)?.clone();
     taken.sort_by(f64::total_cmp);
     Some(Summary { best: taken[0], middle: taken[taken.len() / 2] })
+}
+
+fn quotient(ours: &Option<Summary>, rust: &Option<Summary>, of: fn(&Summary) -> f64) -> Option<f64> {
+    Some(of(ours.as_ref()?) / of(rust.as_ref()?))
 }
 
 fn cell(number: Option<f64>, digits: usize) -> String {
@@ -38,30 +42,36 @@ pub fn read_counts(lines: &str) -> Counts {
 }
 
 pub fn print(note: &Note, times: &[Times], repetitions: usize) {
-    println!(
-        "The note: {} words in {} lines, {} keys without its spaces and line ends.",
-        note.words.len(), note.lines.len(), note.space.typed
-    );
+    let (words, lines, keys) = (note.words.len(), note.lines.len(), note.space.typed);
+    println!("The note: {words} words in {lines} lines, {keys} keys without its spaces and line ends.");
     println!("CPU time, ns a unit: the best of {repetitions} repetitions (ratio: of the best; middle: of the medians)");
     println!();
     println!("{:40}{:>8}{:>8}{:>8}{:>8}{:>8}", "", "ours", "Rust", "floor", "ratio", "middle");
-    let mut ratios = Vec::new();
-    for (figure, times) in FIGURES.iter().zip(times) {
-        let [ours, rust, floor] = ["ours", "rust", "floor"].map(|side| summary(times, side));
-        let [best, middle] = [|side: &Summary| side.best, |side: &Summary| side.middle]
-            .map(|which| Some(which(ours.as_ref()?) / which(rust.as_ref()?)));
-        let [ours, rust, floor] = [ours, rust, floor].map(|side| side.map(|side| side.best));
-        print!("{:40}{:>8}{:>8}", figure.what, cell(ours, 1), cell(rust, 1));
-        println!("{:>8}{:>8}{:>8} a {}", cell(floor, 1), cell(best, 3), cell(middle, 3), figure.unit);
-        ratios.extend(best.map(|ratio| (figure.name, ratio)));
-    }
-    let best_of = |name: &str| {
-        let place = FIGURES.iter().position(|figure: &Figure| figure.name == name).expect("a figure");
-        summary(&times[place], "ours").expect("ours is always there").best
-    };
-    ratios.push(("call-over-value", best_of("call-space") / best_of("key-space")));
+    let ratios: Vec<_> = FIGURES.iter().zip(times).map(|(figure, times)| (figure.name, row(figure, times))).collect();
     println!();
-    ratios.iter().for_each(|(name, ratio)| println!("ratio {name} {ratio:.3}"));
+    for (name, ratio) in ratios {
+        if let Some(ratio) = ratio {
+            println!("ratio {name} {ratio:.3}");
+        }
+    }
+    println!("ratio call-over-value {:.3}", ours(times, "call-space") / ours(times, "key-space"));
+}
+
+/// Prints a figure's row, and answers its ratio.
+fn row(figure: &Figure, times: &Times) -> Option<f64> {
+    let [ours, rust, floor] = ["ours", "rust", "floor"].map(|side| summary(times, side));
+    let ratio = quotient(&ours, &rust, |side| side.best);
+    let middle = quotient(&ours, &rust, |side| side.middle);
+    let [ours, rust, floor] = [ours, rust, floor].map(|side| cell(side.map(|side| side.best), 1));
+    let [best, middle] = [ratio, middle].map(|ratio| cell(ratio, 3));
+    println!("{:40}{ours:>8}{rust:>8}{floor:>8}{best:>8}{middle:>8} a {}", figure.what, figure.unit);
+    ratio
+}
+
+/// Our best time of a figure.
+fn ours(times: &[Times], name: &str) -> f64 {
+    let place = FIGURES.iter().position(|figure| figure.name == name).expect("there is such a figure");
+    summary(&times[place], "ours").expect("ours is always timed").best
 }
 
 pub fn print_counts(counts: &Counts) {
@@ -71,7 +81,7 @@ pub fn print_counts(counts: &Counts) {
     for figure in FIGURES {
         let of = |side: &str| counts.get(&(side.to_string(), figure.name.to_string())).copied();
         let ratio = of("ours").and_then(|ours| Some(ours / of("rust")?));
-        print!("{:40}{:>8}{:>8}", figure.what, cell(of("ours"), 0), cell(of("rust"), 0));
-        println!("{:>8}{:>8} a {}", cell(of("floor"), 0), cell(ratio, 3), figure.unit);
+        let [ours, rust, floor] = ["ours", "rust", "floor"].map(|side| cell(of(side), 0));
+        println!("{:40}{ours:>8}{rust:>8}{floor:>8}{:>8} a {}", figure.what, cell(ratio, 3), figure.unit);
     }
 }
