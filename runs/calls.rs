@@ -23,8 +23,6 @@ pub mod host {
             state: *mut u8, size: usize, key: u32, text: *mut u32, room: usize, count: *mut usize) -> u32;
         pub fn pasdrongel_text(
             state: *const u8, size: usize, text: *mut u32, room: usize, count: *mut usize) -> u32;
-        pub fn pasdrongel_key(
-            state: *mut u8, size: usize, key: u32, text: *mut u32, room: usize, count: *mut usize) -> u32;
         pub fn pasdrongel_literal(state: *mut u8, size: usize, letter: u32) -> u32;
         pub fn pasdrongel_remove_last(
             state: *mut u8, size: usize, text: *mut u32, room: usize, count: *mut usize) -> u32;

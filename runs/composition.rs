@@ -300,9 +300,9 @@ impl Left {
         self.behaviour
     }
 
-    /// The letters that the call wrote, where it wrote any.
+    /// The letters that the call says it wrote.
     pub fn text(&self) -> Option<&[u32]> {
-        (self.count != GUARD_COUNT).then(|| &self.output[MARGIN..MARGIN + self.count])
+        self.output.get(MARGIN..MARGIN + self.count)
     }
 
     pub fn bytes(&self) -> &[u8] {
@@ -314,22 +314,24 @@ impl Left {
     }
 }
 
-/// Letters in hexadecimal; `-` is a place that keeps its value, and a bar stands at the output's start.
+/// `returns 0, [ đa ]; telex vietnamese đ,marked a`. An output that is not the answer and nothing else is shown whole, in
+/// hexadecimal, with `-` for a place that keeps its value and a bar at its start.
 impl Debug for Left {
     fn fmt(&self, f: &mut Formatter) -> std::fmt::Result {
         write!(f, "returns {}", self.refusal)?;
         if self.behaviour != GUARD {
             write!(f, ", behaviour {}", self.behaviour)?;
         }
-        if self.count != GUARD_COUNT {
-            write!(f, ", count {}", self.count)?;
-        }
-        if self.output.iter().any(|&letter| letter != GUARD) {
-            write!(f, ", output")?;
-            let last = self.output.iter().rposition(|&letter| letter != GUARD).unwrap_or(0);
-            for (place, &letter) in self.output[..=last].iter().enumerate() {
-                let bar = if place == MARGIN { " |" } else { "" };
-                if letter == GUARD { write!(f, "{bar} -")? } else { write!(f, "{bar} {letter:04X}")? }
+        let written = self.output.iter().filter(|&&letter| letter != GUARD).count();
+        match self.text() {
+            None if written == 0 => {}
+            Some(text) if written == text.len() && !text.contains(&GUARD) => write!(f, ", {}", bracketed(text))?,
+            _ => {
+                let last = self.output.iter().rposition(|&letter| letter != GUARD).unwrap_or(0);
+                let place = |letter: u32| if letter == GUARD { "-".to_string() } else { format!("{letter:04X}") };
+                let (before, from) = self.output[..last.max(MARGIN) + 1].split_at(MARGIN);
+                let shown = |letters: &[u32]| letters.iter().map(|&letter| place(letter)).collect::<Vec<_>>().join(" ");
+                write!(f, ", count {}, output {} | {}", self.count, shown(before), shown(from))?;
             }
         }
         write!(f, "; {}", show_bytes(self.bytes()))?;

@@ -1,15 +1,15 @@
 -- The search for two rows that go together, a row at a time: the first m of f with the first n of l.
 use Prim.Native.Nat.{ℕ, zero, suc, _+_, _≤_, _<_}
-use mathlib.Core.Path.{_≡_, refl, sym, ap, _∙_}
+use mathlib.Core.Path.{_≡_, ap, _∙_}
 use mathlib.Core.Bool.{Bool, true, false}
-use mathlib.Core.List.{List, [], _∷_, map}
+use mathlib.Core.List.{List, [], _∷_}
 use native.Mathlib.Omega.{arith}
 use native.Mathlib.Numerals.{add-one}
 use lib.Dec.{T, ltb}
 use lib.ListN.{length, take, drop, getD, drop-of-length-le}
 use lib.Seq.{drop-cons, getD-take, length-take-le}
 use borrow.Author.Tests.{ltb-true}
-use Rattle.p0_choice.specs.Choice.{pick, among, each, count, same}
+use Rattle.p0_choice.specs.Choice.{pick, each, count, same}
 use Rattle.p0_choice.proofs.Tables.{pick-first, pick-second, each-count, same-true}
 use Rattle.p4_rows.specs.declared.Rows.{Rows}
 use Rattle.p4_rows.specs.Rows.{onsetToVowels, vowelsToCoda}

@@ -1,12 +1,12 @@
 -- The struct of a part's rows holds them all, at most two, and each is a row of its table.
-use Prim.Native.Nat.{ℕ, _≤_, _<_}
+use Prim.Native.Nat.{ℕ, _≤_}
 use mathlib.Core.Path.{_≡_, refl, sym, ap, _∙_}
 use mathlib.Core.Bool.{Bool, true, false}
 use mathlib.Core.List.{List, [], _∷_}
 use native.Mathlib.Omega.{arith}
-use lib.Dec.{T, eqb, ltb, leb, leb→le}
+use lib.Dec.{T, ltb, leb, leb→le}
 use lib.ListN.{length}
-use Rattle.p0_choice.specs.Choice.{pick, each, among}
+use Rattle.p0_choice.specs.Choice.{pick, each}
 use Rattle.p0_choice.specs.Text.{word, words, wordsFrom}
 use Rattle.p4_rows.specs.declared.Rows.{Rows}
 use Rattle.p4_rows.specs.Rows.{Word, onsetRows, vowelRows, codaRows}

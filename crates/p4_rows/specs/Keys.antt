@@ -1,7 +1,5 @@
 -- What the code stands on: a part's letters as one number, the rows as such numbers, and the rows of a part as the struct `Rows`.
 use Prim.Native.Nat.{ℕ, suc, _+_, _*_, _≤_}
-use mathlib.Core.Path.{_≡_}
-use mathlib.Core.Bool.{Bool, true, false}
 use mathlib.Core.List.{List, [], _∷_, map}
 use lib.Dec.{T, eqb, ltb}
 use lib.ListN.{length, getD, take}

@@ -1,11 +1,11 @@
 -- The verdict on a word of small letters without tones, from what the calls in it answer.
-use Prim.Native.Nat.{ℕ, zero, suc, _+_, _-_, _≤_, _<_}
+use Prim.Native.Nat.{ℕ, zero, suc, _-_, _≤_}
 use mathlib.Core.Path.{_≡_, refl, sym, ap, ap₂, _∙_}
 use mathlib.Core.Bool.{Bool, true, false, not}
 use mathlib.Core.List.{List, [], _∷_}
 use native.Mathlib.Omega.{arith}
 use lib.Dec.{T, eqb}
-use lib.ListN.{length, take, drop, length-drop}
+use lib.ListN.{length, take, drop}
 use borrow.Author.Tests.{eqb-true, eqb-false, ne-eqb}
 use Rattle.p0_choice.specs.Choice.{pick}
 use Rattle.p4_rows.specs.declared.Rows.{Rows}
@@ -18,7 +18,7 @@ use Rattle.p4_spelling.specs.Cut.{vowelRun, onsetEnd, vowelsEnd, onsetOf
 use Rattle.p4_spelling.specs.Verdict.{listedIfAny, onsetFits, codaFits, partsFit, fits}
 use Rattle.p4_spelling.specs.Answers.{placesOf}
 use Rattle.p4_spelling.proofs.Parts.{run-empty}
-use Rattle.p4_spelling.proofs.Scans.{onset-le, vowels-le, onset-first, from-start, whole-rest}
+use Rattle.p4_spelling.proofs.Scans.{onset-le, vowels-le, from-start, whole-rest}
 
 -- ---- onset and coda
 none-taken : (n : ℕ) (w : Word) → n ≤ length w → isEmpty (take n w) ≡ eqb n 0

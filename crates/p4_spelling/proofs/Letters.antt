@@ -8,7 +8,7 @@ use mathlib.Core.List.{List, [], _∷_, _++_, map}
 use native.Mathlib.Omega.{arith}
 use lib.Dec.{T, ltb, leb, eqb, eqb→eq}
 use lib.ListN.{getD}
-use borrow.Author.Tests.{ltb-true, ltb-false, leb-true, eqb-true, eqb-false}
+use borrow.Author.Tests.{ltb-false, leb-true, eqb-true, eqb-false}
 use Rattle.p0_choice.specs.Choice.{pick, among, each, count, same}
 use Rattle.p0_choice.specs.Text.{word, words, wordsFrom}
 use Rattle.p0_choice.proofs.Tables.{each-among, same-true}

@@ -7,7 +7,7 @@ use native.Mathlib.Omega.{arith}
 use lib.Dec.{T, leb, leb→le}
 use lib.ListN.{length, take, drop, take-append-drop, length-append}
 use lib.Seq.{drop-drop}
-use Rattle.p0_choice.specs.Choice.{pick, each}
+use Rattle.p0_choice.specs.Choice.{pick}
 use Rattle.p0_choice.specs.Text.{word, words, wordsFrom}
 use Rattle.p1_letters.specs.Vowels.{isSpellingVowel}
 use Rattle.p4_rows.specs.Rows.{Word, onsetRows, vowelRows, codaRows}

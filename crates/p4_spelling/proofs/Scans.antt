@@ -2,21 +2,19 @@
 use Prim.Native.Nat.{ℕ, suc, _+_, _-_, _≤_, _<_}
 use mathlib.Core.Path.{_≡_, refl, sym, ap, _∙_}
 use mathlib.Core.Bool.{Bool, true, false}
-use mathlib.Core.List.{List, [], _∷_}
+use mathlib.Core.List.{[], _∷_}
 use native.Mathlib.Omega.{arith}
 use native.Mathlib.Numerals.{add-one}
-use lib.Dec.{T, eqb, ltb}
+use lib.Dec.{eqb}
 use lib.ListN.{length, take, drop, getD, length-drop, drop-of-length-le}
 use lib.Seq.{drop-cons, take-all}
-use borrow.Author.Tests.{eq-eqb, ne-eqb}
+use borrow.Author.Tests.{ne-eqb}
 use Rattle.p0_choice.specs.Choice.{pick}
 use Rattle.p0_choice.specs.Text.{word, words, wordsFrom}
-use Rattle.p0_choice.proofs.Choices.{picks, calls, pick-both}
 use Rattle.p1_letters.specs.Vowels.{isSpellingVowel}
 use Rattle.p4_rows.specs.Rows.{Word}
 use Rattle.p4_rows.specs.Lookup.{sameWord, inList}
-use Rattle.p4_spelling.specs.declared.Places.{Places}
-use Rattle.p4_spelling.specs.Cut.{beforeVowel, vowelRun, isGlue, startsGlued, onsetEnd, vowelsEnd, onsetOf, vowelsOf, codaOf}
+use Rattle.p4_spelling.specs.Cut.{beforeVowel, vowelRun, isGlue, startsGlued, onsetEnd, vowelsEnd}
 use Rattle.p4_spelling.specs.Answers.{placesOf}
 
 -- ---- a scan: s is its answer for the whole word, and i + its answer for what is left

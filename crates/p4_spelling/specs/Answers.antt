@@ -1,7 +1,6 @@
 -- What the calls answer: the places of the cut, the parts between them, and refusals 6, then 1.
 use Prim.Native.Nat.{ℕ, _-_}
-use mathlib.Core.Bool.{Bool, true, false}
-use mathlib.Core.List.{List, [], _∷_}
+use mathlib.Core.List.{[]}
 use lib.Dec.{ltb}
 use lib.ListN.{length, take, drop}
 use Rattle.p0_choice.specs.Choice.{pick}

@@ -1,9 +1,7 @@
 -- Every answer of the lister means what specs/Meaning says of it, and what is written is the word meant.
 use Prim.Native.Nat.{ℕ, _≤_, _<_}
-use mathlib.Core.Path.{_≡_, refl, sym, ap, _∙_}
-use mathlib.Core.Logic.{_⊎_, inl, inr, ⊎-elim}
-use mathlib.Core.Bool.{Bool, true, false}
-use mathlib.Core.List.{List}
+use mathlib.Core.Path.{_≡_, refl, sym, ap}
+use mathlib.Core.Bool.{true, false}
 use native.Mathlib.Omega.{arith}
 use lib.Dec.{ltb}
 use lib.ListN.{length}
@@ -16,13 +14,13 @@ use Rattle.p1_letters.specs.Alphabet.{allLetters}
 use Rattle.p4_rows.specs.Rows.{Word}
 use Rattle.p4_spelling.specs.Answers.{permitted}
 use Rattle.p5_trie.specs.Trie.{nth, upTo}
-use Rattle.p5_listing.specs.Listed.{Numbering, Follows, Last}
+use Rattle.p5_listing.specs.Listed.{Numbering}
 use Rattle.p5_listing.specs.Cells.{listing}
 use Rattle.p5_listing.proofs.Numbering.{numbering, follows, last}
 use Rattle.p5_listing.proofs.Unique.{one-total, one-numbering}
 use Rattle.p0_refusals.specs.declared.Answer.{Answer}
 use Rattle.p0_refusals.specs.declared.Answer.the-variants.{Done, Refused}
-use Rattle.p0_refusals.specs.Answers.{Outcome, writes, refuses, answer, output}
+use Rattle.p0_refusals.specs.Answers.{Outcome, writes, refuses, answer}
 use Rattle.p5_lister.specs.Outcomes.{numbered, following}
 use Rattle.p5_lister.specs.Meaning.{NumberMeans, NextMeans}
 

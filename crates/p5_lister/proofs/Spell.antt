@@ -7,7 +7,7 @@ use native.Mathlib.Omega.{arith}
 use native.Mathlib.Numerals.{add-one}
 use lib.ListN.{length, take, set, length-set}
 use lib.Seq.{take-suc-set}
-use Rattle.p5_trie.specs.Trie.{Trie, none, cell, size, nth}
+use Rattle.p5_trie.specs.Trie.{Trie, cell, size, nth}
 use Rattle.p5_trie.proofs.Tests.{depth}
 use Rattle.p5_trie.proofs.Words.{nth-end, nth-into, nth-past, size-cell, size-none}
 use Rattle.p5_listing.specs.Cells.{trieAt, listing}

@@ -1,15 +1,15 @@
 -- The walk of `up_to`: r words are passed, and the others that are at most w lie in cell e's trie, for what is left of w.
 use Prim.Native.Nat.{ℕ, suc, _+_, _≤_, _<_}
 use mathlib.Core.Path.{_≡_, refl, sym, ap, _∙_}
-use mathlib.Core.List.{List, [], _∷_}
+use mathlib.Core.List.{List, _∷_}
 use native.Mathlib.Omega.{arith}
 use native.Mathlib.Numerals.{add-one}
 use lib.ListN.{length, drop, getD}
 use lib.Seq.{drop-cons, drop-length}
-use Rattle.p5_trie.specs.Trie.{Trie, size, upTo}
+use Rattle.p5_trie.specs.Trie.{Trie, upTo}
 use Rattle.p5_trie.proofs.Words.{upTo-none, upTo-empty, upTo-le, upTo-past, upTo-into, upTo-stop}
 use Rattle.p5_listing.specs.Cells.{trieAt, listing}
-use Rattle.p5_listing.proofs.Cells.{letterAt, stopAt, downAt, nextAt, weightAt, endsAt, Right, is-right, root, at-none, opens}
+use Rattle.p5_listing.proofs.Cells.{letterAt, stopAt, downAt, nextAt, weightAt, endsAt, is-right, root, at-none, opens}
 use Rattle.p5_listing.proofs.Computed.{size-listing}
 
 -- one step at cell e

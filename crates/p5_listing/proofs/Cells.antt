@@ -1,13 +1,11 @@
 -- A cell's trie is the cell over the tries of its two cells, and what the table says of a cell is so.
 use Prim.Native.Nat.{ℕ, zero, suc, _+_, _≤_, _<_}
-use mathlib.Core.Path.{_≡_, refl, sym, ap, ap₂, _∙_}
-use mathlib.Core.Bool.{Bool, true, false, _&&_}
-use mathlib.Core.List.{List, [], _∷_}
+use mathlib.Core.Path.{_≡_, refl, sym, ap₂, _∙_}
+use mathlib.Core.Bool.{Bool, true, _&&_}
 use native.Mathlib.Omega.{arith}
-use lib.Dec.{T, eqb, ltb, leb, eqb→eq, leb→le}
+use lib.Dec.{T, eqb, leb, eqb→eq, leb→le}
 use lib.ListN.{getD}
 use mir.Facts.{and-yes}
-use Rattle.p0_choice.specs.Choice.{pick, among, each, count}
 use Rattle.p0_choice.specs.Text.{word}
 use Rattle.p0_choice.proofs.Tables.{each-count}
 use Rattle.p1_letters.specs.Alphabet.{lower, isAsciiCapital, smallBy32, smallBy1, smallHigh, smallNext}

@@ -1,18 +1,18 @@
 -- Every accepted word is held: its onset, vowels and coda are parts of the rows, and a test that antt computes tries all
 -- that such parts make. What the rows let go together is held, or is cut elsewhere, as g + iê + ng, or has an f j w z.
 use Prim.Native.Nat.{ℕ}
-use mathlib.Core.Path.{_≡_, refl, sym, ap, ap₂, _∙_, subst}
+use mathlib.Core.Path.{_≡_, refl, _∙_, subst}
 use mathlib.Core.Bool.{Bool, true, false, not, _&&_}
 use mathlib.Core.List.{List, [], _∷_, _++_}
 use native.Mathlib.Omega.{arith}
-use lib.Dec.{T, eqb}
+use lib.Dec.{T}
 use lib.ListN.{take, drop}
 use borrow.Author.Tests.{eq-eqb}
 use Rattle.p0_choice.specs.Choice.{pick, each}
 use Rattle.p0_choice.specs.Text.{word, words, wordsFrom}
 use Rattle.p1_letters.specs.Vowels.{vowels}
 use Rattle.p4_rows.specs.Rows.{Word, onsetRows, vowelRows, codaRows, onsetToVowels, vowelsToCoda}
-use Rattle.p4_rows.specs.Lookup.{isEmpty, inList, goTogether, allows, allowsAny}
+use Rattle.p4_rows.specs.Lookup.{inList, goTogether, allows, allowsAny}
 use Rattle.p4_rows.proofs.Words.{each-in}
 use Rattle.p4_rows.proofs.Listed.{joined, parts}
 use Rattle.p4_spelling.specs.Cut.{onsetEnd, vowelRun, onsetOf, vowelsOf, codaOf}

@@ -1,8 +1,8 @@
 -- The tests over all listed words that antt computes: how many there are, that they ascend, and that each is accepted.
 use Prim.Native.Nat.{ℕ}
 use mathlib.Core.Path.{_≡_, refl}
-use mathlib.Core.Bool.{Bool, true, false}
-use mathlib.Core.List.{List, [], _∷_}
+use mathlib.Core.Bool.{Bool}
+use mathlib.Core.List.{List}
 use lib.Dec.{T}
 use Rattle.p0_choice.specs.Text.{word, words, wordsFrom}
 use Rattle.p1_letters.specs.Vowels.{vowels}

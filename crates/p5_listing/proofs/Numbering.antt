@@ -1,13 +1,10 @@
 -- Demand 3 of the table: `nth listing` numbers the listed words from 0 to 5,962; the word at number `upTo listing w` follows
 -- w; and a word is accepted exactly if its lower-case toneless form has a number.
 use Prim.Native.Nat.{ℕ, suc, _≤_, _<_}
-use mathlib.Core.Path.{_≡_, refl, sym, ap, _∙_, subst}
+use mathlib.Core.Path.{_≡_, sym, ap, _∙_, subst}
 use mathlib.Core.Logic.{_⊎_, inl, inr, ⊎-elim}
-use mathlib.Core.Bool.{Bool, true, false}
-use mathlib.Core.List.{List, [], _∷_}
 use native.Mathlib.Omega.{arith}
 use lib.Dec.{T, eqb}
-use Rattle.p0_choice.specs.Choice.{pick, each}
 use Rattle.p4_rows.specs.Rows.{Word}
 use Rattle.p4_spelling.specs.Verdict.{verdict}
 use Rattle.p5_trie.specs.Order.{Before, AtMost}

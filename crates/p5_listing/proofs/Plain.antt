@@ -1,16 +1,13 @@
 -- The lower-case toneless form of a word is its own such form, and its verdict is the word's.
-use Prim.Native.Nat.{ℕ, zero, suc, _+_, _-_, _%_, _≤_, _<_}
+use Prim.Native.Nat.{ℕ, _-_}
 use mathlib.Core.Path.{_≡_, refl, sym, ap, ap₂, _∙_}
-use mathlib.Core.Logic.{_⊎_, inl, inr, ⊎-elim}
 use mathlib.Core.Bool.{Bool, true, false}
-use mathlib.Core.List.{List, [], _∷_, _++_, map}
-use native.Mathlib.Omega.{arith}
-use lib.Dec.{T, ltb, leb, eqb, eqb→eq}
-use borrow.Author.Tests.{ltb-true, ltb-false, leb-true, eqb-true, eqb-false, eq-eqb}
-use lib.ListN.{getD}
-use Rattle.p0_choice.specs.Choice.{pick, among, each, count, same}
+use mathlib.Core.List.{[], _∷_}
+use lib.Dec.{T, eqb}
+use borrow.Author.Tests.{eqb-true, eq-eqb}
+use Rattle.p0_choice.specs.Choice.{pick, each}
 use Rattle.p0_choice.specs.Text.{word}
-use Rattle.p0_choice.proofs.Tables.{pick-first, pick-second, each-among, same-true}
+use Rattle.p0_choice.proofs.Tables.{pick-first, pick-second}
 use Rattle.p1_letters.specs.Alphabet.{lower, isAsciiCapital, smallBy32, smallBy1, smallHigh, smallNext}
 use Rattle.p1_letters.specs.Tones.{toneOff, offIn, toneRows}
 use Rattle.p4_rows.specs.Rows.{Word}

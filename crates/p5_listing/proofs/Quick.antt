@@ -1,7 +1,7 @@
 -- `fits` in a form that antt computes fast, for the tests over all words: choices are lazy (`elim`), the tables come in as
 -- arguments, so that they are computed once, and a vowel is one of the twelve, since the words tested have no tones.
 use Prim.Native.Nat.{ℕ, zero, suc}
-use mathlib.Core.Path.{_≡_, refl, sym, ap, ap₂, _∙_}
+use mathlib.Core.Path.{_≡_, refl, sym, ap, _∙_}
 use mathlib.Core.Bool.{Bool, true, false}
 use mathlib.Core.List.{List, [], _∷_}
 use lib.Dec.{eqb}
@@ -12,7 +12,7 @@ use Rattle.p1_letters.specs.Tones.{toneOff}
 use Rattle.p1_letters.specs.Vowels.{isSpellingVowel, vowels}
 use Rattle.p4_rows.specs.Rows.{Word, onsetRows, vowelRows, codaRows, onsetToVowels, vowelsToCoda}
 use Rattle.p4_rows.specs.Lookup.{sameWord, inList, rowsFrom, rowsOf, listed, isEmpty, goTogether}
-use Rattle.p4_spelling.specs.Cut.{beforeVowel, vowelRun, isGlue, startsGlued, onsetEnd, vowelsEnd, onsetOf, vowelsOf, codaOf}
+use Rattle.p4_spelling.specs.Cut.{beforeVowel, vowelRun, isGlue, startsGlued, onsetEnd, onsetOf, vowelsOf, codaOf}
 use Rattle.p4_spelling.specs.Verdict.{hasForeign, listedIfAny, onsetFits, codaFits, partsFit, fits}
 use Rattle.p4_spelling.proofs.Parts.{coda-after}
 use Rattle.p5_listing.proofs.Plain.{Toneless, core}

@@ -2,11 +2,11 @@
 -- between neighbours, and two numberings have one total and name the same words. The word that follows is one too.
 use Prim.Native.Nat.{ℕ, zero, suc, _≤_, _<_}
 use mathlib.Core.Path.{_≡_, refl, sym, ap, _∙_, subst}
-use mathlib.Core.Logic.{_⊎_, inl, inr, ⊎-elim}
+use mathlib.Core.Logic.{_⊎_, ⊎-elim}
 use native.Mathlib.Omega.{arith}
 use Rattle.p4_rows.specs.Rows.{Word}
-use Rattle.p5_trie.specs.Order.{Before, AtMost}
-use Rattle.p5_trie.proofs.Order.{below-or-not, three-ways, before-one-way, not-after, at-most-both}
+use Rattle.p5_trie.specs.Order.{Before}
+use Rattle.p5_trie.proofs.Order.{three-ways, before-one-way, at-most-both}
 use Rattle.p5_listing.specs.Listed.{Listed, Found, Numbering, Follows}
 
 pub one-follows : (w r s : Word) → Follows w r → Follows w s → r ≡ s

@@ -14,7 +14,7 @@ use Rattle.p3_calls.specs.Settings.{created}
 use Rattle.p3_cells.specs.Cells.{blank, holding}
 use Rattle.p3_cells.specs.Text.{textOf}
 use Rattle.p3_cells.specs.declared.Cell.{Cell}
-use Rattle.p3_key.specs.Key.{keyCells}
+use Rattle.p3_step.specs.Key.{keyCells}
 use Rattle.p3_undo.specs.Call.{refusalOf, undoTelex}
 use Rattle.p4_rows.specs.Lookup.{sameWord}
 use Rattle.p4_spelling.specs.Verdict.{verdict}

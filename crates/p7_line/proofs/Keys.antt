@@ -1,5 +1,5 @@
 -- A line read as letters: 256 places always suffice, so that only what the bytes are refuses it.
-use Prim.Native.Nat.{ℕ, _<_, _≤_}
+use Prim.Native.Nat.{ℕ, _+_, _<_, _≤_}
 use mathlib.Core.Path.{_≡_, refl, sym, ap, _∙_}
 use mathlib.Core.Bool.{Bool, true, false}
 use mathlib.Core.List.{List, [], _∷_, _++_}
@@ -21,6 +21,8 @@ use Rattle.p5_utf8_read.specs.Read.{letters, reading}
 use Rattle.p5_utf8_read.proofs.Exact.{letters-exactly}
 use Rattle.p7_line.specs.declared.Begun.{Begun}
 use Rattle.p7_line.specs.declared.Begun.the-variants.{With, Refused as Not}
+use Rattle.p2_input_method.specs.declared.InputMethod.{InputMethod}
+use Rattle.p7_line.specs.Line.{typed, typedLine, refusedLine, keysLine, lineOut}
 use Rattle.p7_line.specs.Method.{methodNamed, methodOf}
 
 -- what is read is at most 256 letters, of the alphabet
@@ -77,3 +79,30 @@ module _ (s o : List ℕ) (g : Answer) (e : g ≡ answer (reading s) (length o))
       → b ≡ methodOf s
   unfolding methodOf
   method-named n out name b q f k h = rw (read-done n out q f, ← k) h
+
+  -- a line of keys: refused as it is read ..
+  module _ (m : InputMethod) (r : Refusal) (q : g ≡ Refused r) where
+    keys-refused : lineOut m s ≡ refusedLine r
+    unfolding lineOut keysLine
+    keys-refused = rw (read-refused r q) refl
+
+    pub refused-line-end : (e at : ℕ) → e ≡ at + length (refusedLine r) → e ≡ at + length (lineOut m s)
+    refused-line-end e at h = rw keys-refused h
+
+    pub refused-line-out : (e at : ℕ) (o1 o2 : List ℕ) → o2 ≡ take at o1 ++ (refusedLine r ++ drop e o1) → o2 ≡ take at o1 ++ (lineOut m s ++ drop e o1)
+    refused-line-out e at o1 o2 h = rw keys-refused h
+
+  -- .. or typed
+  module _ (m : InputMethod) (n : ℕ) (out keys : List ℕ) (q : g ≡ Done n) (f : out ≡ output (reading s) o) (k : keys ≡ take n out) where
+    pub keys-letters : allLetters keys ≡ true
+    keys-letters = rw k (read-small s (take n out) (read-done n out q f) .1)
+
+    keys-typed : lineOut m s ≡ typedLine (typed m [] keys)
+    unfolding lineOut keysLine
+    keys-typed = rw (read-done n out q f, k) refl
+
+    pub typed-line-end : (e at : ℕ) → e ≡ at + length (typedLine (typed m [] keys)) → e ≡ at + length (lineOut m s)
+    typed-line-end e at h = rw keys-typed h
+
+    pub typed-line-out : (e at : ℕ) (o1 o2 : List ℕ) → o2 ≡ take at o1 ++ (typedLine (typed m [] keys) ++ drop e o1) → o2 ≡ take at o1 ++ (lineOut m s ++ drop e o1)
+    typed-line-out e at o1 o2 h = rw keys-typed h

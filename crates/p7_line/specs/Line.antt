@@ -13,7 +13,7 @@ use Rattle.p2_input_method.specs.declared.InputMethod.{InputMethod}
 use Rattle.p3_cells.specs.Cells.{limit}
 use Rattle.p3_cells.specs.Text.{textOf}
 use Rattle.p3_cells.specs.declared.Cell.{Cell}
-use Rattle.p3_key.specs.Key.{keyCells}
+use Rattle.p3_step.specs.Key.{keyCells}
 use Rattle.p4_spelling.specs.Verdict.{verdict}
 use Rattle.p0_refusals.specs.Answers.{Outcome, writes, refuses}
 use Rattle.p5_utf8.specs.Rfc3629.{encodeAll}

@@ -8,12 +8,14 @@ ghost use Rattle.p1_letters.specs.Alphabet.{allLetters};
 ghost use Rattle.p5_utf8.specs.Rfc3629.{encodeAll};
 ghost use Rattle.p4_rows.specs.Lookup.{sameWord};
 ghost use Rattle.p0_refusals.specs.Answers.{writes};
-ghost use Rattle.p7_line.specs.Line.{refusedLine, textLine};
+ghost use mathlib.Core.List.{[]};
+ghost use Rattle.p7_line.specs.Line.{refusedLine, textLine, typed, typedLine, lineOut};
 ghost use Rattle.p7_line.specs.Method.{methodNamed, methodOf};
 use p0_refusals::Answer;
 use p0_refusals::Refusal;
 use p0_slices as slices;
 use p2_input_method::InputMethod;
+use p3_cells::Written;
 
 // What the first line says.
 pub enum Begun {
@@ -23,7 +25,7 @@ pub enum Begun {
 
 pub fn put_refused(refusal: Refusal, out: &mut [u8], at: usize) -> usize
     requires { ⌜ at + 11 ≤ length (now out) ⌝ }
-    ensures { λ r. ⌜ (r ≡ at + length (refusedLine refusal)) × (now (out .exit) ≡ take at (now (out .entry)) ++ (refusedLine refusal ++ drop r (now (out .entry)))) ⌝ }
+    ensures { λ r. ⌜ (r ≡ at + length (refusedLine refusal)) × (r ≤ at + 101) × (now (out .exit) ≡ take at (now (out .entry)) ++ (refusedLine refusal ++ drop r (now (out .entry)))) ⌝ }
 {
     match refusal {
         Refusal::Foreign => slices::put(b"refused 1\n", out, at),
@@ -97,11 +99,49 @@ fn put_text(text: &[u32], out: &mut [u8], at: usize) -> usize
 // A composed text, a tab, and its verdict.
 fn text_line(text: &[u32], out: &mut [u8], at: usize) -> usize
     requires { ⌜ (length (now text) ≤ 32) × (allLetters (now text) ≡ true) × (at + 101 ≤ length (now out)) ⌝ }
-    ensures { λ r. ⌜ (r ≡ at + length (textLine (now (text .entry)))) × (now (out .exit) ≡ take at (now (out .entry)) ++ (textLine (now (text .entry)) ++ drop r (now (out .entry)))) ⌝ }
+    ensures { λ r. ⌜ (r ≡ at + length (textLine (now (text .entry)))) × (r ≤ at + 101) × (now (out .exit) ≡ take at (now (out .entry)) ++ (textLine (now (text .entry)) ++ drop r (now (out .entry)))) ⌝ }
 {
     let next = put_text(text, out, at);
     if p4_spelling::accepts(text) {
         return slices::put(b"\tyes\n", out, next);
     }
     slices::put(b"\tno\n", out, next)
+}
+
+// Keys on a fresh composition: its text with the verdict, or the refusal of the 33rd append.
+fn keys_line(m: InputMethod, keys: &[u32], out: &mut [u8], at: usize) -> usize
+    requires { ⌜ (allLetters (now keys) ≡ true) × (at + 101 ≤ length (now out)) ⌝ }
+    ensures { λ r. ⌜ (r ≡ at + length (typedLine (typed m [] (now (keys .entry))))) × (r ≤ at + 101) × (now (out .exit) ≡ take at (now (out .entry)) ++ (typedLine (typed m [] (now (keys .entry))) ++ drop r (now (out .entry)))) ⌝ }
+{
+    let mut c = p3_calls::new(m);
+    let mut text = [0u32; 32];
+    let mut count: usize = 0;
+    let mut i: usize = 0;
+    while i < keys.len() {
+        let key = keys[i];
+        i += 1;
+        let k = p3_key::process_sound_key(c, key, &mut text);
+        let given = k.answer;
+        match given {
+            Written::Refused(refusal) => return put_refused(refusal, out, at),
+            Written::Wrote(n) => {
+                count = n;
+                c = k.comp;
+            }
+        }
+    }
+    text_line(slices::first(&text, count), out, at)
+}
+
+// A line of keys, with what it prints and its line feed.
+pub fn line_out(m: InputMethod, line: &[u8], out: &mut [u8], at: usize) -> usize
+    requires { ⌜ at + 101 ≤ length (now out) ⌝ }
+    ensures { λ r. ⌜ (r ≡ at + length (lineOut m (now (line .entry)))) × (r ≤ at + 101) × (now (out .exit) ≡ take at (now (out .entry)) ++ (lineOut m (now (line .entry)) ++ drop r (now (out .entry)))) ⌝ }
+{
+    let mut letters = [0u32; 256];
+    let given = p5_utf8_read::read(line, &mut letters);
+    match given {
+        Answer::Refused(refusal) => put_refused(refusal, out, at),
+        Answer::Done(n) => keys_line(m, slices::first(&letters, n), out, at),
+    }
 }

@@ -1,6 +1,5 @@
 use borrow.Author.Needs.{needs}
 use Rattle.p0_choice.proofs.Choices.{calls}
-use mathlib.Core.Path.{ap}
 use Rattle.p4_spelling.specs.Answers.{permitted, cutAnswer}
 use Rattle.p4_spelling.proofs.Answers.{cut-at-is}
 use Rattle.p4_spelling.proofs.partition.Statement.{statement}

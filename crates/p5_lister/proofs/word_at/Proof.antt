@@ -1,6 +1,6 @@
 -- The walk's invariant; each turn is a law of proofs/Spell.
-use Prim.Native.Nat.{ℕ, _≤_, _<_}
-use mathlib.Core.Path.{_≡_, refl}
+use Prim.Native.Nat.{_<_}
+use mathlib.Core.Path.{refl}
 use native.Mathlib.Omega.{arith}
 use borrow.Author.Needs.{needs}
 use Rattle.p5_listing.specs.Cells.{letters, stops, downs, nexts, weights}
