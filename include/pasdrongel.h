@@ -1,7 +1,7 @@
 /* pasdrongel.h: a Vietnamese input composer for a host in C: letters, input methods, compositions, the speller, the list
  * of all accepted syllables, and UTF-8.
  *
- * Link with libp6_host.a; nothing else is needed.
+ * Link with libpasdrongel.a; nothing else is needed. tools/install-host builds it, and a file for pkg-config.
  *
  * Every call returns a number: 0 when it is done, else the number of the refusal. It takes every value there is,
  * always ends, keeps nothing between calls and allocates nothing. After a refusal nothing is written. After
@@ -20,6 +20,13 @@
 #ifdef __cplusplus
 extern "C" {
 #endif
+
+/* The version of this header, and its three parts in one number. */
+#define PASDRONGEL_VERSION_MAJOR 0
+#define PASDRONGEL_VERSION_MINOR 1
+#define PASDRONGEL_VERSION_PATCH 0
+#define PASDRONGEL_VERSION \
+    (PASDRONGEL_VERSION_MAJOR * 1000000 + PASDRONGEL_VERSION_MINOR * 1000 + PASDRONGEL_VERSION_PATCH)
 
 /* The call is done. */
 #define PASDRONGEL_DONE 0
@@ -76,6 +83,15 @@ extern "C" {
 /* What becomes of the key that asked for an undo. */
 #define PASDRONGEL_APPEND 0
 #define PASDRONGEL_CONSUME 1
+
+/* The library. These two return what they find, and refuse nothing. */
+
+/* The version of the library that is linked: PASDRONGEL_VERSION of the header that it was built with. */
+uint32_t pasdrongel_version(void);
+
+/* A text for what a call returns, in English, in ASCII and on one line. A number that is none of the refusals has a text
+ * too. It is never NULL, and stays as it is for as long as the program runs. */
+const char *pasdrongel_refusal_text(uint32_t refusal);
 
 /* Letters. */
 

@@ -813,11 +813,30 @@ static void list_facts(void)
     FACT(next_letters(word, length, PASDRONGEL_LISTED_ROOM) == PASDRONGEL_REFUSED_NO_WORD);
 }
 
+/* ---- the library */
+
+static void library_facts(void)
+{
+    uint32_t i, j;
+    FACT(pasdrongel_version() == PASDRONGEL_VERSION);
+    FACT(PASDRONGEL_VERSION_MINOR < 1000 && PASDRONGEL_VERSION_PATCH < 1000);
+    for (i = 0; i <= PASDRONGEL_REFUSED_UNSOUND + 1; i++) {
+        const char *text = pasdrongel_refusal_text(i), *at;
+        FACT(text != NULL && *text != '\0');
+        for (at = text; *at != '\0'; at++)
+            FACT(*at >= ' ' && *at <= '~');
+        for (j = 0; j < i; j++)
+            FACT(strcmp(text, pasdrongel_refusal_text(j)) != 0);
+    }
+    FACT(pasdrongel_refusal_text(0xffffffff) == pasdrongel_refusal_text(PASDRONGEL_REFUSED_UNSOUND + 1));
+}
+
 int main(void)
 {
     size_t i;
     for (i = 0; i < EVERYTHING; i++)
         lent_open(everything[i]);
+    library_facts();
     letters_facts();
     utf8_facts();
     soundness_facts();
