@@ -1,6 +1,7 @@
-/* pasdrongel.h: Vietnamese letters and UTF-8 for a host in C.
+/* pasdrongel.h: a Vietnamese input composer for a host in C: letters, input methods, compositions, the speller, the list
+ * of all accepted syllables, and UTF-8.
  *
- * Link with libp6_host.a; nothing else is needed.
+ * Link with libpasdrongel.a; nothing else is needed. tools/install-host builds it, and a file for pkg-config.
  *
  * Every call returns a number: 0 when it is done, else the number of the refusal. It takes every value there is,
  * always ends, keeps nothing between calls and allocates nothing. After a refusal nothing is written. After
@@ -19,6 +20,13 @@
 #ifdef __cplusplus
 extern "C" {
 #endif
+
+/* The version of this header, and its three parts in one number. */
+#define PASDRONGEL_VERSION_MAJOR 0
+#define PASDRONGEL_VERSION_MINOR 1
+#define PASDRONGEL_VERSION_PATCH 0
+#define PASDRONGEL_VERSION \
+    (PASDRONGEL_VERSION_MAJOR * 1000000 + PASDRONGEL_VERSION_MINOR * 1000 + PASDRONGEL_VERSION_PATCH)
 
 /* The call is done. */
 #define PASDRONGEL_DONE 0
@@ -52,10 +60,38 @@ extern "C" {
 #define PASDRONGEL_WORD_LETTERS 64
 /* The most bytes of a line, and of what is read as UTF-8. */
 #define PASDRONGEL_LINE_BYTES 256
+/* The bytes of a composition, and the most cells that it uses. */
+#define PASDRONGEL_COMPOSITION_BYTES 259
+#define PASDRONGEL_CELLS 32
+/* With this many letters of room the calls that write a composition's text never refuse by 3. */
+#define PASDRONGEL_TEXT_ROOM 32
+/* With this many letters of room the calls that write a listed word never refuse by 3. */
+#define PASDRONGEL_LISTED_ROOM 8
 /* With this many letters of room pasdrongel_read_utf8 never refuses by 3. */
 #define PASDRONGEL_READ_ROOM 256
 /* With this many bytes of room pasdrongel_write_utf8 never refuses by 3: no letter takes more than three. */
 #define PASDRONGEL_WRITE_ROOM 192
+
+/* Numbers that calls take and give. */
+
+/* The input methods. */
+#define PASDRONGEL_TELEX 0
+#define PASDRONGEL_VNI 1
+/* The modes. */
+#define PASDRONGEL_VIETNAMESE 0
+#define PASDRONGEL_ENGLISH 1
+/* What becomes of the key that asked for an undo. */
+#define PASDRONGEL_APPEND 0
+#define PASDRONGEL_CONSUME 1
+
+/* The library. These two return what they find, and refuse nothing. */
+
+/* The version of the library that is linked: PASDRONGEL_VERSION of the header that it was built with. */
+uint32_t pasdrongel_version(void);
+
+/* A text for what a call returns, in English, in ASCII and on one line. A number that is none of the refusals has a text
+ * too. It is never NULL, and stays as it is for as long as the program runs. */
+const char *pasdrongel_refusal_text(uint32_t refusal);
 
 /* Letters. */
 
@@ -89,6 +125,90 @@ uint32_t pasdrongel_is_composer_vowel(uint32_t letter, uint32_t *yes);
 /* `*yes` is 1 for those twelve small vowels, each plain or with any of the five tones; else 0, and 0 for every
  * capital. Refuses by 1 what is no letter. */
 uint32_t pasdrongel_is_speller_vowel(uint32_t letter, uint32_t *yes);
+
+/* Input methods. `method` is PASDRONGEL_TELEX or PASDRONGEL_VNI; every other number is refused by 10. Letters are taken as
+ * they stand: the rules are in small letters. */
+
+/* `*yes` is 1 if `key` is a tone key of the method (f s r x j; 1 2 3 4 5), else 0. Refuses by 1 if `key` is no letter. */
+uint32_t pasdrongel_is_tone_key(uint32_t method, uint32_t key, uint32_t *yes);
+
+/* `*yes` is 1 if `key` makes the pair of horned vowels (w; 7), else 0. Refuses by 1 if `key` is no letter. */
+uint32_t pasdrongel_is_horn_key(uint32_t method, uint32_t key, uint32_t *yes);
+
+/* The letter that `base` and `key` make by a rule of the method (Telex aw aa ee oo ow uw dd; VNI a6 e6 o6 o7 u7 a8 d9),
+ * or 0. Refuses by 1 if `base` or `key` is no letter. */
+uint32_t pasdrongel_mark_for(uint32_t method, uint32_t base, uint32_t key, uint32_t *mark);
+
+/* Compositions. A composition is what a grower is typing: its cells, the input method and the mode. It stands in `size`
+ * bytes of the host at `state`, PASDRONGEL_COMPOSITION_BYTES of them, and a call finds and leaves it there. What the bytes
+ * say is stated in docs/BYTES.md. A call that is given a composition refuses by 10 where the bytes are not that many, or
+ * are not those of a sound composition. Two compositions are equal exactly where their bytes are. */
+
+/* Makes `state` an empty composition under the input method, in Vietnamese mode, whatever the bytes were. Refuses by 10 if
+ * `size` is another number, or `method` is no method. */
+uint32_t pasdrongel_new(uint8_t *state, size_t size, uint32_t method);
+
+/* Are these the bytes of a sound composition? 0 if they are, 10 if they are not. */
+uint32_t pasdrongel_composition_ok(const uint8_t *state, size_t size);
+
+/* Takes a key of the input method, and writes the text that stands then, as pasdrongel_text; in English mode the key changes
+ * nothing, and that one letter is written. Refuses by 1 if `key` is no letter, by 2 if a letter must be appended and all
+ * cells are used, by 3 if `room` is less than the letters; then the key is not taken. */
+uint32_t pasdrongel_key(
+    uint8_t *state, size_t size, uint32_t key, uint32_t *text, size_t room, size_t *count);
+
+/* The text, from the start of `text`, which has room for `room` letters, and their number to `*count`. Refuses by 3 if `room`
+ * is less than the letters. */
+uint32_t pasdrongel_text(const uint8_t *state, size_t size, uint32_t *text, size_t room, size_t *count);
+
+/* Appends a letter as it is, in either mode: no key of the method. Refuses by 1 if `letter` is no letter, by 2 if all cells
+ * are used. */
+uint32_t pasdrongel_literal(uint8_t *state, size_t size, uint32_t letter);
+
+/* Removes the last cell, and writes the text that is left, as pasdrongel_text. Refuses by 4 if there is no cell, by 3 if
+ * `room` is less than the letters. */
+uint32_t pasdrongel_remove_last(uint8_t *state, size_t size, uint32_t *text, size_t room, size_t *count);
+
+/* Undoes the last step of Telex that the key `trigger` made, `raw` being the keys that were typed, `length` of them.
+ * `*behaviour` is PASDRONGEL_APPEND if the host is to append the trigger as a letter, PASDRONGEL_CONSUME if not. Refuses by 6
+ * if `length` is over PASDRONGEL_WORD_LETTERS, by 1 if `trigger` or one of `raw` is no letter, by 5 if there is nothing to
+ * undo, which is always so under VNI. */
+uint32_t pasdrongel_undo(
+    uint8_t *state, size_t size, uint32_t trigger, const uint32_t *raw, size_t length, uint32_t *behaviour);
+
+/* Empties the cells; method and mode stay. */
+uint32_t pasdrongel_reset(uint8_t *state, size_t size);
+
+/* Sets the input method and empties the cells; the mode stays. Refuses by 10 also if `method` is no method. */
+uint32_t pasdrongel_set_method(uint8_t *state, size_t size, uint32_t method);
+
+/* Sets the mode, PASDRONGEL_VIETNAMESE or PASDRONGEL_ENGLISH. Turning to English empties the cells, always; turning to
+ * Vietnamese empties nothing. Refuses by 10 also if `mode` is neither. */
+uint32_t pasdrongel_set_mode(uint8_t *state, size_t size, uint32_t mode);
+
+/* The speller. A word has `length` letters. Refuses by 6 if `length` is over PASDRONGEL_WORD_LETTERS, by 1 if a code point
+ * among them is no letter. */
+
+/* Cuts the word into onset, vowels and coda: the onset ends before place `*onset`, the vowels before place `*vowels`, and
+ * what is left is the coda. */
+uint32_t pasdrongel_cut(const uint32_t *word, size_t length, size_t *onset, size_t *vowels);
+
+/* `*yes` is 1 if the word is accepted as a Vietnamese syllable, else 0. Capitals and tones make no difference. */
+uint32_t pasdrongel_verdict(const uint32_t *word, size_t length, uint32_t *yes);
+
+/* The list of all accepted syllables, small and without tones, in dictionary order by code point. A word is written from the
+ * start of `word`, which has room for `room` letters, and its length to `*count`. */
+
+/* How many words the list has. */
+uint32_t pasdrongel_total(size_t *total);
+
+/* The word of a number, from 0. Refuses by 7 if there is none, by 3 if `room` is less than its letters. */
+uint32_t pasdrongel_word(size_t number, uint32_t *word, size_t room, size_t *count);
+
+/* The first listed word that comes after `after`, which has `length` letters and need not be listed itself. Refuses by 6 if
+ * `length` is over PASDRONGEL_WORD_LETTERS, by 1 if a code point among them is no letter, by 7 if no listed word follows, by 3
+ * if `room` is less than the letters. */
+uint32_t pasdrongel_next_word(const uint32_t *after, size_t length, uint32_t *word, size_t room, size_t *count);
 
 /* UTF-8, as RFC 3629 defines it. */
 

@@ -14,6 +14,29 @@ pub mod host {
         pub fn pasdrongel_tone_off(letter: u32, plain: *mut u32) -> u32;
         pub fn pasdrongel_is_composer_vowel(letter: u32, yes: *mut u32) -> u32;
         pub fn pasdrongel_is_speller_vowel(letter: u32, yes: *mut u32) -> u32;
+        pub fn pasdrongel_is_tone_key(method: u32, key: u32, yes: *mut u32) -> u32;
+        pub fn pasdrongel_is_horn_key(method: u32, key: u32, yes: *mut u32) -> u32;
+        pub fn pasdrongel_mark_for(method: u32, base: u32, key: u32, mark: *mut u32) -> u32;
+        pub fn pasdrongel_new(state: *mut u8, size: usize, method: u32) -> u32;
+        pub fn pasdrongel_composition_ok(state: *const u8, size: usize) -> u32;
+        pub fn pasdrongel_key(
+            state: *mut u8, size: usize, key: u32, text: *mut u32, room: usize, count: *mut usize) -> u32;
+        pub fn pasdrongel_text(
+            state: *const u8, size: usize, text: *mut u32, room: usize, count: *mut usize) -> u32;
+        pub fn pasdrongel_literal(state: *mut u8, size: usize, letter: u32) -> u32;
+        pub fn pasdrongel_remove_last(
+            state: *mut u8, size: usize, text: *mut u32, room: usize, count: *mut usize) -> u32;
+        pub fn pasdrongel_undo(
+            state: *mut u8, size: usize, trigger: u32, raw: *const u32, length: usize, behaviour: *mut u32) -> u32;
+        pub fn pasdrongel_reset(state: *mut u8, size: usize) -> u32;
+        pub fn pasdrongel_set_method(state: *mut u8, size: usize, method: u32) -> u32;
+        pub fn pasdrongel_set_mode(state: *mut u8, size: usize, mode: u32) -> u32;
+        pub fn pasdrongel_cut(word: *const u32, length: usize, onset: *mut usize, vowels: *mut usize) -> u32;
+        pub fn pasdrongel_verdict(word: *const u32, length: usize, yes: *mut u32) -> u32;
+        pub fn pasdrongel_total(total: *mut usize) -> u32;
+        pub fn pasdrongel_word(number: usize, word: *mut u32, room: usize, count: *mut usize) -> u32;
+        pub fn pasdrongel_next_word(
+            after: *const u32, length: usize, word: *mut u32, room: usize, count: *mut usize) -> u32;
         pub fn pasdrongel_read_utf8(
             bytes: *const u8, length: usize, letters: *mut u32, room: usize, count: *mut usize) -> u32;
         pub fn pasdrongel_write_utf8(
@@ -27,7 +50,7 @@ pub const GUARD_BYTE: u8 = 0xa5;
 pub const GUARD_COUNT: usize = 0xa5a5a5a5;
 
 /// Guarded places on each side of a lent output.
-const MARGIN: usize = 4;
+pub const MARGIN: usize = 4;
 
 /// The number that a call returns, and what it leaves in the one number lent to it.
 #[derive(PartialEq)]
@@ -116,4 +139,36 @@ pub fn write_utf8(letters: &[u32], room: usize) -> Left<u8> {
     Left::of(room, GUARD_BYTE, |output, count| unsafe {
         host::pasdrongel_write_utf8(letters.as_ptr(), letters.len(), output, room, count)
     })
+}
+
+pub fn word(number: usize, room: usize) -> Left<u32> {
+    Left::of(room, GUARD, |output, count| unsafe { host::pasdrongel_word(number, output, room, count) })
+}
+
+pub fn next_word(word: &[u32], room: usize) -> Left<u32> {
+    Left::of(room, GUARD, |output, count| unsafe {
+        host::pasdrongel_next_word(word.as_ptr(), word.len(), output, room, count)
+    })
+}
+
+/// The number that the cut returns, and the two places that it leaves.
+#[derive(PartialEq, Debug)]
+pub struct Places {
+    returns: u32,
+    onset: usize,
+    vowels: usize,
+}
+
+impl Places {
+    pub fn by(answer: Result<(usize, usize), u32>) -> Places {
+        let (returns, (onset, vowels)) =
+            answer.map_or_else(|refusal| (refusal, (GUARD_COUNT, GUARD_COUNT)), |places| (0, places));
+        Places { returns, onset, vowels }
+    }
+
+    pub fn of(word: &[u32]) -> Places {
+        let (mut onset, mut vowels) = (GUARD_COUNT, GUARD_COUNT);
+        let returns = unsafe { host::pasdrongel_cut(word.as_ptr(), word.len(), &mut onset, &mut vowels) };
+        Places { returns, onset, vowels }
+    }
 }

@@ -34,8 +34,35 @@ pub fn spaced<T: PartialEq + Copy>(items: impl Iterator<Item = T>, show: fn(T) -
     runs.collect::<Vec<String>>().join(" ")
 }
 
-/// The printable letters of a line, as a remark for its reader.
+/// A letter or a digit as itself, and any other number as a code point.
+pub fn sign(number: u32) -> String {
+    let itself = oracle::letter(number).ok().filter(|letter| letter.is_alphanumeric());
+    itself.map_or_else(|| code(number), String::from)
+}
+
+/// Letters in brackets, to be read at a glance: `[ dad ]`, `[ a U+002E s ]`, `[ b*32 ]`, `[ ]`.
+pub fn bracketed(letters: &[u32]) -> String {
+    let mut text = "[".to_string();
+    let mut joins = false;
+    for run in letters.chunk_by(PartialEq::eq) {
+        let (shown, often) = (sign(run[0]), run.len() >= 5);
+        let single = shown.chars().count() == 1 && !often;
+        text.push_str(if joins && single { "" } else { " " });
+        text.push_str(&match (single, often) {
+            (true, _) => shown.repeat(run.len()),
+            (false, false) => vec![shown; run.len()].join(" "),
+            (false, true) => format!("{shown}*{}", run.len()),
+        });
+        joins = single;
+    }
+    text + " ]"
+}
+
+/// The printable letters of a line that has code points alone, as a remark for its reader.
 fn remark(line: &str) -> String {
+    if line.contains('[') {
+        return String::new();
+    }
     let codes = line.split([' ', '*']).filter_map(|word| u32::from_str_radix(word.strip_prefix("U+")?, 16).ok());
     let letters = codes.filter_map(|code| oracle::letter(code).ok());
     let printable = |letter: &char| !letter.is_control() && !letter.is_whitespace();

@@ -27,14 +27,15 @@ pub fn compare(run: &mut Run) {
     for &number in &numbers {
         let ours = unsafe { host::pasdrongel_check_letter(number) };
         let theirs = oracle::letter(number).err().unwrap_or(0);
-        run.compare(ours, theirs, || vec![number], || code(number));
+        run.compare("check_letter", ours, theirs, || vec![number], || code(number));
     }
 
     for (name, call, oracle) in LETTER_TO_LETTER.into_iter().chain(LETTER_TO_YES) {
         run.begin(&format!("{name}: every code point, and numbers above"));
         for &number in &numbers {
             let ours = Place::of(|place| unsafe { call(number, place) });
-            run.compare(ours, Place::by(oracle::letter(number).map(oracle)), || vec![number], || code(number));
+            let theirs = Place::by(oracle::letter(number).map(oracle));
+            run.compare(name, ours, theirs, || vec![number], || code(number));
         }
     }
 
@@ -57,7 +58,7 @@ pub fn compare(run: &mut Run) {
 fn tone_on(run: &mut Run, letter: u32, tone: u32) {
     let ours = Place::of(|place| unsafe { host::pasdrongel_tone_on(letter, tone, place) });
     let input = || format!("{} {}", code(letter), code(tone));
-    run.compare(ours, Place::by(oracle::tone_on(letter, tone)), || vec![letter, tone], input);
+    run.compare("tone_on", ours, Place::by(oracle::tone_on(letter, tone)), || vec![letter, tone], input);
 }
 
 /// Every code point; above them the edges, letters with one high bit more, and random numbers.

@@ -1,48 +1,23 @@
 //! The C calls against the Rust, in one program: `runs/compare` builds and starts it.
-//!
-//! The three files of the Rust are taken in as they stand. They are private to themselves, so each gets a module `spy`
-//! beside its text, through which the oracle sees what the file does not publish.
 
-#[allow(dead_code)]
-mod bamboo {
-    include!(concat!(env!("ENGINE"), "/bamboo.rs"));
-
-    pub mod spy {
-        pub fn is_vowel(letter: char) -> bool {
-            super::is_vowel(letter)
-        }
-
-        pub fn apply_tone_to_char(letter: char, tone: char) -> char {
-            super::apply_tone_to_char(letter, tone)
-        }
-    }
-}
-
+/// bamboo.rs looks for this one at the root; the others stand in `engine`.
 #[allow(dead_code)]
 mod input_method {
     include!(concat!(env!("ENGINE"), "/input_method.rs"));
 }
 
-#[allow(dead_code)]
-mod spelling {
-    include!(concat!(env!("ENGINE"), "/spelling.rs"));
-
-    pub mod spy {
-        pub fn is_vowel(letter: char) -> bool {
-            super::is_vowel(letter)
-        }
-
-        pub fn strip_tone(letter: char) -> char {
-            super::strip_tone(letter)
-        }
-    }
-}
-
 mod calls;
+mod composer;
+mod composition;
+mod engine;
 mod fixed;
 mod letters;
+mod lister;
+mod methods;
 mod oracle;
 mod report;
+mod session;
+mod spelling;
 mod utf8;
 
 use report::Run;
@@ -58,6 +33,10 @@ pub struct Subject {
 /// Every subject, in document 01's port order.
 const SUBJECTS: &[Subject] = &[
     Subject { name: "letters", compare: letters::compare, fixed: letters::fixed },
+    Subject { name: "methods", compare: methods::compare, fixed: methods::fixed },
+    Subject { name: "composer", compare: composer::compare, fixed: composer::fixed },
+    Subject { name: "spelling", compare: spelling::compare, fixed: spelling::fixed },
+    Subject { name: "lister", compare: lister::compare, fixed: lister::fixed },
     Subject { name: "utf8", compare: utf8::compare, fixed: utf8::fixed },
 ];
 
@@ -73,18 +52,19 @@ fn main() -> ExitCode {
     }
     let chosen = SUBJECTS.iter().filter(|subject| names.is_empty() || names.iter().any(|name| *name == subject.name));
     match options[..] {
-        [] => compare(chosen),
+        [] => compare(chosen, false),
+        ["--until-found"] => compare(chosen, true),
         ["--write-fixed"] => fixed::write(chosen),
         ["--check-fixed"] => fixed::check(chosen),
         _ => {
-            eprintln!("options: --write-fixed, --check-fixed, or none");
+            eprintln!("options: --until-found, --write-fixed, --check-fixed, or none");
             ExitCode::from(2)
         }
     }
 }
 
-fn compare<'a>(chosen: impl Iterator<Item = &'a Subject>) -> ExitCode {
-    let mut run = Run::from_environment();
+fn compare<'a>(chosen: impl Iterator<Item = &'a Subject>, until_found: bool) -> ExitCode {
+    let mut run = Run::from_environment(until_found);
     for subject in chosen {
         run.subject(subject.name);
         (subject.compare)(&mut run);

@@ -1,19 +1,27 @@
 //! The other side: what the Rust, Rust's own library and document 01's limits answer, on our numbers.
 //! A refusal is `Err` of its number.
 
-use crate::{bamboo, spelling};
+use crate::engine::{bamboo, spelling};
 use std::sync::OnceLock;
 
 pub const FOREIGN: u32 = 1;
+pub const FULL: u32 = 2;
 pub const SHORT: u32 = 3;
+pub const EMPTY: u32 = 4;
+pub const NO_UNDO: u32 = 5;
 pub const LONG: u32 = 6;
+pub const NO_WORD: u32 = 7;
 pub const MALFORMED: u32 = 8;
+pub const UNSOUND: u32 = 10;
 
 pub const WORD_LETTERS: usize = 64;
 pub const LINE_BYTES: usize = 256;
 
 /// The ten tone keys.
 pub const TONE_KEYS: &str = "sfrxj12345";
+
+/// The marks of a cell.
+pub const MARKS: &str = "ăâêôơưđ";
 
 /// Document 01's 67 small letters; Rust's library knows their capitals.
 const SMALL: &str = "àáâãèéêìíòóôõùúý\
@@ -113,4 +121,57 @@ pub fn write_utf8(letters: &[u32], room: usize) -> Result<Vec<u8>, u32> {
     }
     let text: String = letters.iter().map(|&code| letter(code)).collect::<Result<_, _>>()?;
     if text.len() > room { Err(SHORT) } else { Ok(text.into_bytes()) }
+}
+
+/// A word that is permitted: at most 64 letters, each of the alphabet.
+fn permitted(word: &[u32]) -> Result<String, u32> {
+    if word.len() > WORD_LETTERS { Err(LONG) } else { word.iter().map(|&code| letter(code)).collect() }
+}
+
+/// Where the onset ends, and where the vowels end.
+pub fn cut(word: &[u32]) -> Result<(usize, usize), u32> {
+    let (onset, vowels, _) = spelling::partition(&permitted(word)?);
+    let onset = onset.chars().count();
+    Ok((onset, onset + vowels.chars().count()))
+}
+
+pub fn verdict(word: &[u32]) -> Result<u32, u32> {
+    Ok(u32::from(spelling::is_valid_vietnamese_syllable(&permitted(word)?)))
+}
+
+/// Every accepted word without capitals and tones, in the order of a dictionary. An accepted word is cut into parts that
+/// stand in the Rust's rows, so each one is among the words that are tried here.
+pub fn listing() -> &'static [Vec<u32>] {
+    static WORDS: OnceLock<Vec<Vec<u32>>> = OnceLock::new();
+    WORDS.get_or_init(|| {
+        let or_none = |parts: Vec<&'static str>| [vec![""], parts].concat();
+        let (onsets, vowels, codas) = (spelling::spy::onsets(), spelling::spy::vowels(), spelling::spy::codas());
+        let mut words = Vec::new();
+        for onset in or_none(onsets) {
+            for vowel in or_none(vowels.clone()) {
+                for coda in or_none(codas.clone()) {
+                    let word = [onset, vowel, coda].concat();
+                    if spelling::is_valid_vietnamese_syllable(&word) {
+                        words.push(word.chars().map(u32::from).collect());
+                    }
+                }
+            }
+        }
+        words.sort();
+        words.dedup();
+        words
+    })
+}
+
+fn fitting(word: &[u32], room: usize) -> Result<Vec<u32>, u32> {
+    if word.len() > room { Err(SHORT) } else { Ok(word.to_vec()) }
+}
+
+pub fn word(number: usize, room: usize) -> Result<Vec<u32>, u32> {
+    fitting(listing().get(number).ok_or(NO_WORD)?, room)
+}
+
+pub fn next_word(after: &[u32], room: usize) -> Result<Vec<u32>, u32> {
+    permitted(after)?;
+    word(listing().partition_point(|listed| &listed[..] <= after), room)
 }

@@ -19,16 +19,20 @@ pub struct Run {
     subject: &'static str,
     random: Random,
     kind: Option<Kind>,
+    by_call: Vec<(&'static str, u64)>,
     calls: u64,
     differ: u64,
+    until_found: bool,
 }
 
 impl Run {
     /// SEED (default 1) chooses the random inputs; SCALE (default 1) multiplies their number.
-    pub fn from_environment() -> Run {
+    /// Where `until_found`, the run ends with the first kind of call that differs.
+    pub fn from_environment(until_found: bool) -> Run {
         let (seed, scale) = (number("SEED", 1), number("SCALE", 1));
         eprintln!("SEED={seed} SCALE={scale}");
-        Run { seed, scale, subject: "", random: Random(0), kind: None, calls: 0, differ: 0 }
+        let (subject, random) = ("", Random(0));
+        Run { seed, scale, subject, random, kind: None, by_call: Vec::new(), calls: 0, differ: 0, until_found }
     }
 
     /// A subject's random inputs depend on the seed and its name alone, and not on the subjects before it.
@@ -47,6 +51,7 @@ impl Run {
     /// One call compared. `size` orders inputs, so that the smallest one that differs is kept: shorter, then lower.
     pub fn compare<T: PartialEq + Debug>(
         &mut self,
+        call: &'static str,
         ours: T,
         theirs: T,
         size: impl FnOnce() -> Vec<u32>,
@@ -54,6 +59,10 @@ impl Run {
     ) {
         let kind = self.kind.as_mut().expect("a kind is begun before a call is compared");
         kind.calls += 1;
+        match self.by_call.last_mut() {
+            Some((name, calls)) if *name == call => *calls += 1,
+            _ => count_last(&mut self.by_call, call),
+        }
         if ours == theirs {
             return;
         }
@@ -74,10 +83,18 @@ impl Run {
         }
         self.calls += kind.calls;
         self.differ += kind.differ;
+        if self.until_found && self.differ > 0 {
+            println!("{} calls compared, {} differ", self.calls, self.differ);
+            std::process::exit(1);
+        }
     }
 
     pub fn conclude(mut self) -> ExitCode {
         self.end();
+        self.by_call.sort();
+        for (call, calls) in &self.by_call {
+            eprintln!("{call}: {calls} calls compared");
+        }
         println!("{} calls compared, {} differ", self.calls, self.differ);
         if self.differ == 0 && self.calls > 0 { ExitCode::SUCCESS } else { ExitCode::FAILURE }
     }
@@ -89,6 +106,18 @@ impl Run {
 
     pub fn random(&mut self) -> &mut Random {
         &mut self.random
+    }
+}
+
+/// Counts a call, and moves its counter to the end, where it is soon looked for again.
+fn count_last(counters: &mut Vec<(&'static str, u64)>, call: &'static str) {
+    match counters.iter().position(|(name, _)| *name == call) {
+        None => counters.push((call, 1)),
+        Some(place) => {
+            let last = counters.len() - 1;
+            counters[place].1 += 1;
+            counters.swap(place, last);
+        }
     }
 }
 

@@ -33,14 +33,14 @@ fn read(run: &mut Run, bytes: &[u8], room: usize) {
     let theirs = Left::by(oracle::read_utf8(bytes, room), room, GUARD);
     let size = || bytes.iter().map(|&byte| u32::from(byte)).chain([room as u32]).collect();
     let input = || format!("room {room}: {}", spaced(bytes.iter().copied(), byte));
-    run.compare(calls::read_utf8(bytes, room), theirs, size, input);
+    run.compare("read_utf8", calls::read_utf8(bytes, room), theirs, size, input);
 }
 
 fn write(run: &mut Run, letters: &[u32], room: usize) {
     let theirs = Left::by(oracle::write_utf8(letters, room), room, GUARD_BYTE);
     let size = || letters.iter().copied().chain([room as u32]).collect();
     let input = || format!("room {room}: {}", spaced(letters.iter().copied(), code));
-    run.compare(calls::write_utf8(letters, room), theirs, size, input);
+    run.compare("write_utf8", calls::write_utf8(letters, room), theirs, size, input);
 }
 
 fn short_strings(run: &mut Run) {

@@ -1,4 +1,4 @@
-/* Replays the fixed lists through the C calls: each line's call, its arguments, and the answer that the oracle gave.
+/* Replays the fixed lists through the C calls: each line's calls, their arguments, and the answer that the oracle gave.
  *
  *   replay FILE..      prints the first lines that differ, then `N answers replayed, M differ`
  *
@@ -15,6 +15,10 @@
 #define MARGIN 4
 #define MOST 1024
 #define MOST_SHOWN 20
+#define COMPOSITION_BYTES PASDRONGEL_COMPOSITION_BYTES
+#define CELLS PASDRONGEL_CELLS
+/* The room of a session's outputs where it names no other. */
+#define ROOM 40
 
 /* Code points or bytes, as a line spells them. */
 struct list {
@@ -43,7 +47,7 @@ static const struct {
     {"is_speller_vowel", pasdrongel_is_speller_vowel},
 };
 
-static const char *file;
+static const char *file, *called;
 static unsigned long line_number;
 
 static void bad_line(const char *why)
@@ -63,6 +67,71 @@ static void add_item(struct list *list, const char *word)
         bad_line("this is no item");
     while (times-- > 0)
         list->items[list->length++] = (uint32_t)item;
+}
+
+/* The letter that UTF-8 has at `*text`, which goes on behind it; the lists are well formed. */
+static uint32_t next_letter(const char **text)
+{
+    const unsigned char *byte = (const unsigned char *)*text;
+    size_t width = byte[0] < 0x80 ? 1 : byte[0] < 0xe0 ? 2 : 3, i;
+    uint32_t letter = width == 1 ? byte[0] : byte[0] & (0x7fu >> width);
+    for (i = 1; i < width; i++)
+        letter = letter << 6 | (byte[i] & 0x3fu);
+    *text += width;
+    return letter;
+}
+
+/* Appends letters: `U+002E`, `dad`, or a single one with `*32` for as many times. */
+static void add_letters(struct list *list, const char *word)
+{
+    const char *text = word;
+    if (strncmp(word, "U+", 2) == 0) {
+        add_item(list, word);
+        return;
+    }
+    while (*text != '\0') {
+        uint32_t letter = next_letter(&text);
+        unsigned long times = 1;
+        if (*text == '*')
+            times = strtoul(text + 1, (char **)&text, 10);
+        if (times > MOST - list->length)
+            bad_line("these are too many letters");
+        while (times-- > 0)
+            list->items[list->length++] = letter;
+    }
+}
+
+static const char *next_word(void)
+{
+    const char *word = strtok(NULL, " ");
+    if (word == NULL)
+        bad_line("this line ends too soon");
+    return word;
+}
+
+/* The next word must be this one. */
+static void expect(const char *word)
+{
+    if (strcmp(next_word(), word) != 0)
+        bad_line(word);
+}
+
+static unsigned long read_number(void)
+{
+    char *end;
+    unsigned long number = strtoul(next_word(), &end, 10);
+    if (*end != '\0')
+        bad_line("this is no number");
+    return number;
+}
+
+/* What stands in brackets, of which the first is read already. */
+static void read_bracketed(struct list *list)
+{
+    const char *word;
+    list->length = 0;
+    while (strcmp(word = next_word(), "]") != 0)
+        add_letters(list, word);
 }
 
 /* The words up to `stop` (NULL: all that are left), as items. */
@@ -89,9 +158,11 @@ static void read_answer(struct answer *answer)
         answer->refusal = word == NULL ? 0 : (uint32_t)strtoul(word, NULL, 10);
         if (answer->refusal == 0)
             bad_line("this refusal has no number");
+    } else if (strcmp(word, "[") == 0) {
+        read_bracketed(&answer->list);
     } else if (strcmp(word, "yes") == 0) {
         add_item(&answer->list, "1");
-    } else if (strcmp(word, "no") == 0) {
+    } else if (strcmp(word, "no") == 0 || strcmp(word, "none") == 0) {
         add_item(&answer->list, "0");
     } else if (strcmp(word, "done") != 0 && strcmp(word, "nothing") != 0) {
         struct list rest;
@@ -114,28 +185,46 @@ static size_t count_after(const struct answer *answer)
     return answer->refusal == 0 ? answer->list.length : GUARD;
 }
 
+/* A lent output of letters, with guarded places around it. */
+static uint32_t output[MOST + 2 * MARGIN];
+static size_t count;
+
+static void lend_output(void)
+{
+    size_t i;
+    for (i = 0; i < MOST + 2 * MARGIN; i++)
+        output[i] = GUARD;
+    count = GUARD;
+}
+
+/* Does the output have the letters at its start, and all else as it was? */
+static int output_has(const struct list *letters)
+{
+    size_t i;
+    for (i = 0; i < MOST + 2 * MARGIN; i++)
+        if (output[i] != (i >= MARGIN && i - MARGIN < letters->length ? letters->items[i - MARGIN] : GUARD))
+            return 0;
+    return 1;
+}
+
 static int replay_read(const struct list *input, size_t room, const struct answer *answer)
 {
     static uint8_t bytes[MOST];
-    static uint32_t letters[MOST + 2 * MARGIN];
-    size_t i, count = GUARD;
+    size_t i;
     uint32_t refusal;
     for (i = 0; i < input->length; i++)
         bytes[i] = (uint8_t)input->items[i];
-    for (i = 0; i < room + 2 * MARGIN; i++)
-        letters[i] = GUARD;
-    refusal = pasdrongel_read_utf8(bytes, input->length, letters + MARGIN, room, &count);
-    for (i = 0; i < room + 2 * MARGIN; i++)
-        if (letters[i] != (i >= MARGIN && i - MARGIN < answer->list.length ? answer->list.items[i - MARGIN] : GUARD))
-            return 0;
-    return refusal == answer->refusal && count == count_after(answer);
+    lend_output();
+    refusal = pasdrongel_read_utf8(bytes, input->length, output + MARGIN, room, &count);
+    return refusal == answer->refusal && count == count_after(answer) && output_has(&answer->list);
 }
 
 static int replay_write(const struct list *input, size_t room, const struct answer *answer)
 {
     static uint8_t bytes[MOST + 2 * MARGIN];
-    size_t i, count = GUARD;
+    size_t i;
     uint32_t refusal;
+    count = GUARD;
     memset(bytes, GUARD_BYTE, sizeof bytes);
     refusal = pasdrongel_write_utf8(input->items, input->length, bytes + MARGIN, room, &count);
     for (i = 0; i < room + 2 * MARGIN; i++)
@@ -154,14 +243,305 @@ static size_t read_room(void)
     return size;
 }
 
+/* `cut [ gia ] = 2 3`: where the onset ends, and where the vowels end. */
+static int replay_cut(void)
+{
+    struct list word;
+    size_t onset = GUARD, vowels = GUARD;
+    uint32_t refusal;
+    const char *answer;
+    expect("[");
+    read_bracketed(&word);
+    refusal = pasdrongel_cut(word.items, word.length, &onset, &vowels);
+    expect("=");
+    answer = next_word();
+    if (strcmp(answer, "refused") == 0)
+        return refusal == read_number() && onset == GUARD && vowels == GUARD;
+    return refusal == 0 && onset == strtoul(answer, NULL, 10) && vowels == read_number();
+}
+
+static int replay_verdict(void)
+{
+    struct list word;
+    struct answer answer;
+    uint32_t yes = GUARD, refusal;
+    expect("[");
+    read_bracketed(&word);
+    refusal = pasdrongel_verdict(word.items, word.length, &yes);
+    expect("=");
+    read_answer(&answer);
+    return refusal == answer.refusal && yes == number_after(&answer);
+}
+
+/* `mark_for 0 [ aw ] = [ \304\203 ]`, `is_tone_key 0 [ s ] = yes`: a method and letters. */
+static int replay_method(void)
+{
+    struct list letters;
+    struct answer answer;
+    uint32_t method = (uint32_t)read_number(), out = GUARD, refusal;
+    expect("[");
+    read_bracketed(&letters);
+    expect("=");
+    read_answer(&answer);
+    if (letters.length == 2)
+        refusal = pasdrongel_mark_for(method, letters.items[0], letters.items[1], &out);
+    else if (called[3] == 't')
+        refusal = pasdrongel_is_tone_key(method, letters.items[0], &out);
+    else
+        refusal = pasdrongel_is_horn_key(method, letters.items[0], &out);
+    return refusal == answer.refusal && out == number_after(&answer);
+}
+
+static int replay_total(void)
+{
+    size_t total = GUARD;
+    uint32_t refusal = pasdrongel_total(&total);
+    expect("=");
+    return refusal == 0 && total == read_number();
+}
+
+static int letters_answered(uint32_t refusal)
+{
+    struct answer answer;
+    expect("=");
+    read_answer(&answer);
+    return refusal == answer.refusal && count == count_after(&answer) && output_has(&answer.list);
+}
+
+/* `word 13 room 8 = [ b ]` */
+static int replay_word(void)
+{
+    size_t number = read_number(), room;
+    expect("room");
+    room = read_number();
+    lend_output();
+    return letters_answered(pasdrongel_word(number, output + MARGIN, room, &count));
+}
+
+/* `next_word room 8 : [ az ] = [ b ]` */
+static int replay_next_word(void)
+{
+    struct list word;
+    size_t room = read_room();
+    expect("[");
+    read_bracketed(&word);
+    lend_output();
+    return letters_answered(pasdrongel_next_word(word.items, word.length, output + MARGIN, room, &count));
+}
+
+/* A session: the bytes of its composition, with guarded ones around, and what the last call left. */
+static struct {
+    uint8_t bytes[MOST + 2 * MARGIN], before[MOST + 2 * MARGIN];
+    size_t length, room;
+    uint32_t refusal, behaviour;
+} session;
+
+/* The bytes of a cell: `a`, `U+0020,s`, `\303\242,marked,s,capital`. */
+static void write_cell(uint8_t *bytes, char *word)
+{
+    struct list base;
+    char *part = strchr(word, ',');
+    if (part != NULL)
+        *part++ = '\0';
+    base.length = 0;
+    add_letters(&base, word);
+    if (base.length != 1)
+        bad_line("a cell has one base");
+    bytes[0] = (uint8_t)base.items[0];
+    bytes[1] = (uint8_t)(base.items[0] >> 8);
+    bytes[2] = (uint8_t)(base.items[0] >> 16);
+    bytes[3] = (uint8_t)(base.items[0] >> 24);
+    while (part != NULL) {
+        char *next = strchr(part, ',');
+        if (next != NULL)
+            *next++ = '\0';
+        if (strcmp(part, "marked") == 0) {
+            bytes[4] = bytes[0];
+            bytes[5] = bytes[1];
+        } else if (strcmp(part, "capital") == 0) {
+            bytes[7] = 1;
+        } else {
+            bytes[6] = (uint8_t)part[0];
+        }
+        part = next;
+    }
+}
+
+/* The bytes of a composition, `telex vietnamese a b,s`, up to the word `stop` (NULL: to the end of the line). */
+static void read_composition(uint8_t *bytes, const char *stop)
+{
+    char *word, *star;
+    memset(bytes, 0, COMPOSITION_BYTES);
+    bytes[0] = strcmp(next_word(), "vni") == 0;
+    bytes[1] = strcmp(next_word(), "english") == 0;
+    while ((word = strtok(NULL, " ")) != NULL && (stop == NULL || strcmp(word, stop) != 0)) {
+        unsigned long times = 1;
+        if (strcmp(word, "nothing") == 0)
+            continue;
+        if ((star = strchr(word, '*')) != NULL) {
+            times = strtoul(star + 1, NULL, 10);
+            *star = '\0';
+        }
+        for (; times > 0; times--) {
+            char cell[64];
+            if (bytes[2] == CELLS || strlen(word) >= sizeof cell)
+                bad_line("these are too many cells");
+            strcpy(cell, word);
+            write_cell(bytes + 3 + 8 * bytes[2]++, cell);
+        }
+    }
+}
+/* Lends everything anew, and keeps the composition as it is before the call. */
+static void lend(void)
+{
+    lend_output();
+    session.behaviour = GUARD;
+    memcpy(session.before, session.bytes, sizeof session.before);
+}
+
+static void press(const struct list *keys)
+{
+    size_t i;
+    for (i = 0; i < keys->length; i++) {
+        lend();
+        session.refusal = pasdrongel_key(
+            session.bytes + MARGIN, session.length, keys->items[i], output + MARGIN, session.room, &count);
+    }
+}
+
+static uint32_t read_letter(void)
+{
+    struct list letter;
+    letter.length = 0;
+    add_letters(&letter, next_word());
+    if (letter.length != 1)
+        bad_line("this is not one letter");
+    return letter.items[0];
+}
+
+static uint32_t undo(void)
+{
+    struct list raw;
+    uint32_t trigger = read_letter();
+    expect("[");
+    read_bracketed(&raw);
+    return pasdrongel_undo(session.bytes + MARGIN, session.length, trigger, raw.items, raw.length, &session.behaviour);
+}
+
+/* A call of a session by its name; the keys are no call of their own. */
+static uint32_t session_call(const char *name)
+{
+    uint8_t *state = session.bytes + MARGIN;
+    size_t length = session.length;
+    lend();
+    if (strcmp(name, "telex") == 0 || strcmp(name, "vni") == 0)
+        return pasdrongel_new(state, length, name[0] == 'v');
+    if (strcmp(name, "new") == 0)
+        return pasdrongel_new(state, length, (uint32_t)read_number());
+    if (strcmp(name, "literal") == 0)
+        return pasdrongel_literal(state, length, read_letter());
+    if (strcmp(name, "text") == 0)
+        return pasdrongel_text(state, length, output + MARGIN, session.room, &count);
+    if (strcmp(name, "remove_last") == 0)
+        return pasdrongel_remove_last(state, length, output + MARGIN, session.room, &count);
+    if (strcmp(name, "reset") == 0)
+        return pasdrongel_reset(state, length);
+    if (strcmp(name, "set_method") == 0)
+        return pasdrongel_set_method(state, length, (uint32_t)read_number());
+    if (strcmp(name, "set_mode") == 0)
+        return pasdrongel_set_mode(state, length, (uint32_t)read_number());
+    if (strcmp(name, "undo") == 0)
+        return undo();
+    if (strcmp(name, "composition_ok") == 0)
+        return pasdrongel_composition_ok(state, length);
+    bad_line("this call is not known");
+    return 0;
+}
+
+/* The next step of a session: a call, keys, or a change of what is lent. */
+static void session_step(const char *word)
+{
+    uint8_t *state = session.bytes + MARGIN;
+    struct list keys;
+    if (strcmp(word, "handed") == 0) {
+        read_composition(state, ";");
+    } else if (strcmp(word, "keys") == 0) {
+        expect("[");
+        read_bracketed(&keys);
+        press(&keys);
+    } else if (strcmp(word, "room") == 0) {
+        session.room = read_number();
+    } else if (strcmp(word, "poke") == 0) {
+        size_t place = read_number();
+        state[place] = (uint8_t)read_number();
+    } else if (strcmp(word, "length") == 0) {
+        size_t length = read_number(), shorter = length < session.length ? length : session.length;
+        memset(state + shorter, 0, length - shorter);
+        memset(state + length, GUARD_BYTE, MOST + MARGIN - length);
+        session.length = length;
+    } else {
+        session.refusal = session_call(word);
+    }
+}
+
+/* `session STEPS = ANSWER / COMPOSITION`: the answer of the last call, and what it leaves. */
+static int replay_session(void)
+{
+    struct list text;
+    size_t expected_count = GUARD;
+    uint32_t expected_refusal = 0, expected_behaviour = GUARD;
+    const char *word;
+    memset(session.bytes, GUARD_BYTE, sizeof session.bytes);
+    session.length = COMPOSITION_BYTES;
+    session.room = ROOM;
+    while (strcmp(word = next_word(), "=") != 0)
+        session_step(word);
+    text.length = 0;
+    word = next_word();
+    if (strcmp(word, "refused") == 0) {
+        expected_refusal = (uint32_t)read_number();
+    } else {
+        if (strcmp(word, "[") == 0) {
+            read_bracketed(&text);
+            expected_count = text.length;
+        } else if (strcmp(word, "append") == 0 || strcmp(word, "consume") == 0) {
+            expected_behaviour = word[0] == 'c';
+        } else if (strcmp(word, "done") != 0) {
+            bad_line("this answer is not known");
+        }
+        expect("/");
+        read_composition(session.before + MARGIN, NULL);
+    }
+    return session.refusal == expected_refusal && session.behaviour == expected_behaviour && count == expected_count
+        && output_has(&text) && memcmp(session.bytes, session.before, sizeof session.bytes) == 0;
+}
+
+static const struct {
+    const char *name;
+    int (*replay)(void);
+} spelled_calls[] = {
+    {"session", replay_session},
+    {"is_tone_key", replay_method},
+    {"is_horn_key", replay_method},
+    {"mark_for", replay_method},
+    {"cut", replay_cut},
+    {"verdict", replay_verdict},
+    {"total", replay_total},
+    {"word", replay_word},
+    {"next_word", replay_next_word},
+};
+
 /* Replays one line; 1 if the call answers as the oracle. */
 static int replay(char *line)
 {
     static struct list input;
     static struct answer answer;
-    const char *name = strtok(line, " ");
+    const char *name = called = strtok(line, " ");
     uint32_t out = GUARD;
     size_t i;
+    for (i = 0; i < sizeof spelled_calls / sizeof *spelled_calls; i++)
+        if (strcmp(name, spelled_calls[i].name) == 0)
+            return spelled_calls[i].replay();
     if (strcmp(name, "read_utf8") == 0 || strcmp(name, "write_utf8") == 0) {
         size_t room = read_room();
         read_list(&input, "=");

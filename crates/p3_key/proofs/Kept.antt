@@ -19,7 +19,7 @@ use Rattle.p3_cells.specs.declared.Mode.the-variants.{Vietnamese, English}
 use Rattle.p3_cells.specs.declared.Written.{Written}
 use Rattle.p3_cells.specs.declared.Written.the-variants.{Wrote, Refused}
 use Rattle.p3_cells.proofs.Holding.{used-cells, holding-sound, length-holding}
-use Rattle.p3_step.proofs.Kept.{key-cells-kept}
+use Rattle.p3_step.proofs.Sound.{key-cells-kept}
 use Rattle.p3_key.specs.Process.{inMode, next, written, isFull, keyAnswer, keyComposition}
 
 -- what an answer that is no refusal says of the key

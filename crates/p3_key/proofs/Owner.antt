@@ -60,21 +60,21 @@ pub letters-stored : (m : Mode) (key : ℕ) (cells : List Cell) (at also : ℕ) 
 letters-stored m key cells at also p q o out j v w n e f h l r =
     letters-more m key (set (set cells at p) also q) o out j v e f (rw (length-set (set cells at p) also q, length-set cells at p, n) (omega arith)) (omega arith)
 
--- ---- the return
-pub owner-right : (c : Composition) (key : ℕ) (o out b : List ℕ) (trusted s : Bool) (t i j u k r : ℕ) (e : Edit) (p q : Cell)
+-- ---- the return; the row is what was lent
+pub owner-right : (c : Composition) (key : ℕ) (o out b row : List ℕ) (trusted s : Bool) (t i j u k r : ℕ) (e : Edit) (p q : Cell)
     → length (c .cells) ≡ limit → fitsFrom c 0 ≡ faultsBy c t i → limit ≤ i → (trusted ≡ true → isSound c ≡ true) → s ≡ soundBy trusted (c .count) t
     → u ≡ min (c .count) limit → Filled (c .cells) b j → j ≤ u → u ≤ j
-    → e ≡ editOf s (c .method) (c .mode) (rowCells (take (u - 0) (drop 0 b))) key (c .count) (length o)
+    → row ≡ take (u - 0) (drop 0 b) → e ≡ editOf s (c .method) (c .mode) (rowCells row) key (c .count) (length o)
     → k ≡ asciiLower key → p ≡ putCell (e .change) (e .mark) (getD (c .cells) (e .at) blank) (getD (c .cells) (e .also) blank) key k → q ≡ alsoCell (e .change) p
     → out ≡ lettersTo (c .mode) key (set (set (c .cells) (e .at) p) (e .also) q) r o → r ≤ e .letters → e .letters ≤ r
     → (record { comp = record { cells = set (set (c .cells) (e .at) p) (e .also) q; method = c .method; mode = c .mode; count = e .count }; answer = e .answer } ≡ keyed c key o)
     × (out ≡ keyOut c key o)
 unfolding keyed edited
-owner-right c key o out b trusted s t i j u k r e p q n f l z y h g a d w x v m y′ r′ r″ =
+owner-right c key o out b row trusted s t i j u k r e p q n f l z y h g a d v′ w x m m′ y′ r′ r″ =
     let d′ : r ≡ e .letters = omega arith in
-    let known = edit-known c key o b trusted s t i j u e f l z y h g a d w in
+    let known = edit-known c key o b trusted s t i j u e f l z y h g a d (rw v′ at w) in
     let right : Right c key o e = rw known (edit-right c key o n) in
-    (rw (m, v, x) (λ δ. record { comp = right .comp δ; answer = right .answer δ }), y′ ∙ rw (m, v, x, d′) (right .out))
+    (rw (m′, m, x) (λ δ. record { comp = right .comp δ; answer = right .answer δ }), y′ ∙ rw (m′, m, x, d′) (right .out))
 
 -- ---- its two callers: one tests, and the other knows that the composition is sound
 pub tests : (c : Composition) → false ≡ true → isSound c ≡ true

@@ -22,28 +22,6 @@ use Rattle.p3_marks.specs.declared.Place.{Place}
 use Rattle.p3_marks.specs.declared.Place.the-variants.{Nowhere, At}
 use Rattle.p3_marks.proofs.Base.{row-base, same-base, same-length}
 
--- ---- a key that is in no rule marks nothing
-none-in : (rs : List MarkRule) (b k : ℕ) → among k (markKeys rs) ≡ false → markIn rs b k ≡ 0
-unfolding markIn markKeys
-none-in [] b k e = refl
-none-in (r ∷ rs) b k e = go (eqb b (r .first)) (eqb k (r .key)) e (λ (f : among k (markKeys rs) ≡ false). none-in rs b k f)
-  where
-    go : (a t : Bool) → pick t true (among k (markKeys rs)) ≡ false → (among k (markKeys rs) ≡ false → markIn rs b k ≡ 0)
-        → pick a (pick t (r .result) (markIn rs b k)) (markIn rs b k) ≡ 0
-    go a true e f = let z : _≡_ {A = ℕ} 0 1 = cc in absurd (omega arith)
-    go true false e f = f e
-    go false false e f = f e
-
-none-back : (m : InputMethod) (cs : List Cell) (k : ℕ) → isMarkKey m k ≡ false → (n i : ℕ) → markBack m cs k n i ≡ Nowhere
-unfolding isMarkKey markBack markFor
-none-back m cs k e zero i = refl
-none-back m cs k e (suc n) zero = refl
-none-back m cs k e (suc n) (suc i) = rw (none-in (markRules m) (baseAt cs i) k e) (none-back m cs k e n i)
-
-pub mark-no-key : (m : InputMethod) (cs : List Cell) (k : ℕ) (v : Bool) → v ≡ isMarkKey m k → not v ≡ true → Nowhere ≡ markPlace m cs k
-unfolding markPlace
-mark-no-key m cs k v e t = sym (none-back m cs k (sym e ∙ not-true v t) 5 (length cs))
-
 -- ---- the scan
 pub mark-first : (m : InputMethod) (row : List ℕ) (k : ℕ) → markPlace m (rowCells row) k ≡ markBack m (rowCells row) k 5 (length row)
 unfolding markPlace
@@ -80,6 +58,28 @@ module _ (m : InputMethod) (row : List ℕ) (k : ℕ) (s : Place) (left i : ℕ)
 
       pub mark-on : x ≡ 0 → s ≡ markBack m (rowCells row) k (left - 1) (i - 1)
       mark-on t = rw (e, turn m (rowCells row) k left i l (omega arith), row-base row (i - 1), ← p, ← q, eq-eqb x 0 t) refl
+
+-- ---- a key that is in no rule marks nothing
+none-in : (rs : List MarkRule) (b k : ℕ) → among k (markKeys rs) ≡ false → markIn rs b k ≡ 0
+unfolding markIn markKeys
+none-in [] b k e = refl
+none-in (r ∷ rs) b k e = go (eqb b (r .first)) (eqb k (r .key)) e (λ (f : among k (markKeys rs) ≡ false). none-in rs b k f)
+  where
+    go : (a t : Bool) → pick t true (among k (markKeys rs)) ≡ false → (among k (markKeys rs) ≡ false → markIn rs b k ≡ 0)
+        → pick a (pick t (r .result) (markIn rs b k)) (markIn rs b k) ≡ 0
+    go a true e f = let z : _≡_ {A = ℕ} 0 1 = cc in absurd (omega arith)
+    go true false e f = f e
+    go false false e f = f e
+
+none-back : (m : InputMethod) (cs : List Cell) (k : ℕ) → isMarkKey m k ≡ false → (n i : ℕ) → markBack m cs k n i ≡ Nowhere
+unfolding isMarkKey markBack markFor
+none-back m cs k e zero i = refl
+none-back m cs k e (suc n) zero = refl
+none-back m cs k e (suc n) (suc i) = rw (none-in (markRules m) (baseAt cs i) k e) (none-back m cs k e n i)
+
+pub mark-no-key : (m : InputMethod) (cs : List Cell) (k : ℕ) (v : Bool) → v ≡ isMarkKey m k → not v ≡ true → Nowhere ≡ markPlace m cs k
+unfolding markPlace
+mark-no-key m cs k v e t = sym (none-back m cs k (sym e ∙ not-true v t) 5 (length cs))
 
 -- ---- the place: one of a cell whose base is in a rule with the key
 pub record Marks (m : InputMethod) (cs : List Cell) (k i j : ℕ) : Type 0 where

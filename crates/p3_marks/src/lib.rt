@@ -77,13 +77,13 @@ pub fn find_mark_backtrack(m: InputMethod, row: &[u32], k: u32) -> Place
         return Place::Nowhere;
     }
     let mut i = row.len();
-    let mut left: usize = 5;
-    while 0 < left {
+    let mut reach: usize = 5;
+    while 0 < reach {
         if i == 0 {
             return Place::Nowhere;
         }
         i -= 1;
-        left -= 1;
+        reach -= 1;
         let b = letters::ascii_lower(row[i]);
         let l = input_method::mark_for(m, b, k);
         if l != 0 {

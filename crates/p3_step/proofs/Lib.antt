@@ -2,4 +2,4 @@ pub mod Steps
 pub mod Cells
 pub mod Makes
 pub mod Same
-pub mod Kept
+pub mod Sound

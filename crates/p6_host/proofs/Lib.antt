@@ -1,2 +1,4 @@
 pub mod LetterCalls
+pub mod MethodCalls
+pub mod SpellerCalls
 pub mod Told

@@ -1,2 +1,5 @@
 pub mod LetterCalls
+pub mod MethodCalls
+pub mod CompositionCalls
+pub mod SpellerCalls
 pub mod Counts

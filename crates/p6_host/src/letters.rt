@@ -8,7 +8,7 @@ use p0_refusals::Refusal;
 use p0_refusals::number;
 
 // A yes or no, for C.
-fn flag(yes: bool) -> u32
+pub fn flag(yes: bool) -> u32
     ensures { λ r. ⌜ r ≡ flagOf yes ⌝ }
 {
     if yes {
@@ -28,7 +28,7 @@ pub extern "C" fn pasdrongel_check_letter(letter: u32) -> u32
 }
 
 // Writes an answer about a letter, unless the letter is foreign.
-fn give(letter: u32, answer: u32, place: &mut u32) -> u32
+pub fn give(letter: u32, answer: u32, place: &mut u32) -> u32
     ensures { λ r. ⌜ (r ≡ letterCode letter) × (now (place .exit) ≡ letterOut letter answer (now (place .entry))) ⌝ }
 {
     if p1_letters::in_alphabet(letter) {

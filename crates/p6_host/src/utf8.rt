@@ -5,21 +5,7 @@ ghost use Rattle.p0_refusals.specs.Answers.{refusalOf, answer, output};
 ghost use Rattle.p5_utf8_read.specs.Read.{reading};
 ghost use Rattle.p5_utf8_write.specs.Write.{writing};
 ghost use Rattle.p6_host.specs.Counts.{countOut};
-use p0_refusals::Answer;
-use p0_refusals::number;
-
-// Gives C the number of a refusal, or writes how much was done.
-fn tell(given: Answer, count: &mut usize) -> u32
-    ensures { λ r. ⌜ (r ≡ refusalOf given) × (now (count .exit) ≡ countOut given (now (count .entry))) ⌝ }
-{
-    match given {
-        Answer::Done(n) => {
-            *count = n;
-            0
-        }
-        Answer::Refused(refusal) => number(refusal),
-    }
-}
+use crate::answers::tell;
 
 #[no_mangle]
 pub extern "C" fn pasdrongel_read_utf8(bytes: &[u8], letters: &mut [u32], count: &mut usize) -> u32

@@ -15,6 +15,6 @@ chosen-spec =
     (λ c κs. (below-at _ _ (c .before .before .before .before .before .pre .1) _ (omega arith), below-at _ _ (c .before .before .before .before .before .pre .1) _ (omega arith)))
     (λ c. (search chosen-last, below-at _ _ (c .before .before .before .before .before .before .before .pre .1) _ (omega arith)))
     (λ c. search needs)
-    (λ c. (chosen-first _ _ _ (c .before .before .before .before .before .before .if1 .left) (c .before .before .before .rise .ensures) (c .before .before .if2 .left) (c .before .if3 .taken), below-at _ _ (c .before .before .before .before .before .before .before .before .before .pre .1) _ (omega arith)))
+    (λ c. (chosen-first _ _ _ (c .before .before .before .before .before .before .if1 .left) (c .before .before .before .rise .ensures) (c .before .before .if2 .left) (search needs), below-at _ _ (c .before .before .before .before .before .before .before .before .before .pre .1) _ (omega arith)))
     (λ c. search needs)
-    (λ c. (chosen-second _ _ _ (c .before .before .before .before .before .before .if1 .left) (c .before .before .before .rise .ensures) (c .before .before .if2 .left) (c .before .if3 .left), below-at _ _ (c .before .before .before .before .before .before .before .before .before .pre .1) _ (omega arith))))
+    (λ c. (chosen-second _ _ _ (c .before .before .before .before .before .before .if1 .left) (c .before .before .before .rise .ensures) (c .before .before .if2 .left) (search needs), below-at _ _ (c .before .before .before .before .before .before .before .before .before .pre .1) _ (omega arith))))

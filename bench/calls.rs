@@ -1,0 +1,106 @@
+//! The calls that are timed: those of the C host (include/pasdrongel.h), and the loops over a note that p7_bench and
+//! p7_bench_inner have for the calls by value.
+
+use crate::note::RESET;
+
+mod host {
+    #[rustfmt::skip]
+    extern "C" {
+        pub fn pasdrongel_new(state: *mut u8, size: usize, method: u32) -> u32;
+        pub fn pasdrongel_reset(state: *mut u8, size: usize) -> u32;
+        pub fn pasdrongel_key(
+            state: *mut u8, size: usize, key: u32, text: *mut u32, room: usize, count: *mut usize) -> u32;
+        pub fn pasdrongel_cut(word: *const u32, length: usize, onset: *mut usize, vowels: *mut usize) -> u32;
+        pub fn pasdrongel_verdict(word: *const u32, length: usize, yes: *mut u32) -> u32;
+        pub fn pasdrongel_word(number: usize, word: *mut u32, room: usize, count: *mut usize) -> u32;
+        pub fn pasdrongel_next_word(
+            after: *const u32, length: usize, word: *mut u32, room: usize, count: *mut usize) -> u32;
+        pub fn pasdrongel_read_utf8(
+            bytes: *const u8, length: usize, letters: *mut u32, room: usize, count: *mut usize) -> u32;
+        pub fn pasdrongel_write_utf8(
+            letters: *const u32, length: usize, bytes: *mut u8, room: usize, count: *mut usize) -> u32;
+
+        pub fn pasdrongel_bench_keys(keys: *const u32, length: usize, text: *mut u32, room: usize) -> usize;
+        pub fn pasdrongel_bench_sound_keys(keys: *const u32, length: usize, text: *mut u32, room: usize) -> usize;
+        pub fn pasdrongel_bench_floor(keys: *const u32, length: usize, text: *mut u32, room: usize) -> usize;
+    }
+}
+
+/// The bytes of a composition, and the number of Telex.
+const STATE: usize = 259;
+const TELEX: u32 = 0;
+
+/// Types the keys under Telex, a fresh composition at each RESET. The last text is left in `text`. Answers how many keys
+/// were refused.
+pub type Typist = fn(keys: &[u32], text: &mut [u32]) -> usize;
+
+/// By the key by value.
+pub fn keys(keys: &[u32], text: &mut [u32]) -> usize {
+    unsafe { host::pasdrongel_bench_keys(keys.as_ptr(), keys.len(), text.as_mut_ptr(), text.len()) }
+}
+
+/// By the inner key, which requires soundness and does not test it.
+pub fn sound_keys(keys: &[u32], text: &mut [u32]) -> usize {
+    unsafe { host::pasdrongel_bench_sound_keys(keys.as_ptr(), keys.len(), text.as_mut_ptr(), text.len()) }
+}
+
+/// By a key that only appends its letter and copies all letters to the text.
+pub fn floor(keys: &[u32], text: &mut [u32]) -> usize {
+    unsafe { host::pasdrongel_bench_floor(keys.as_ptr(), keys.len(), text.as_mut_ptr(), text.len()) }
+}
+
+/// By the C calls on a composition as bytes.
+pub fn host_keys(keys: &[u32], text: &mut [u32]) -> usize {
+    let (mut state, mut count, mut refused) = ([0; STATE], 0, 0);
+    let (out, room) = (text.as_mut_ptr(), text.len());
+    refused += unsafe { host::pasdrongel_new(state.as_mut_ptr(), STATE, TELEX) };
+    for &key in keys {
+        refused += match key {
+            RESET => unsafe { host::pasdrongel_reset(state.as_mut_ptr(), STATE) },
+            _ => unsafe { host::pasdrongel_key(state.as_mut_ptr(), STATE, key, out, room, &mut count) },
+        };
+    }
+    refused as usize
+}
+
+/// Whether the word is accepted.
+pub fn verdict(word: &[u32]) -> bool {
+    let mut yes = 0;
+    assert_eq!(unsafe { host::pasdrongel_verdict(word.as_ptr(), word.len(), &mut yes) }, 0);
+    yes == 1
+}
+
+/// Where the onset and the vowels end.
+pub fn cut(word: &[u32]) -> (usize, usize) {
+    let (mut onset, mut vowels) = (0, 0);
+    assert_eq!(unsafe { host::pasdrongel_cut(word.as_ptr(), word.len(), &mut onset, &mut vowels) }, 0);
+    (onset, vowels)
+}
+
+/// How many letters were written; `None` for a refusal.
+pub fn word(number: usize, out: &mut [u32]) -> Option<usize> {
+    let mut count = 0;
+    let refusal = unsafe { host::pasdrongel_word(number, out.as_mut_ptr(), out.len(), &mut count) };
+    (refusal == 0).then_some(count)
+}
+
+pub fn next_word(after: &[u32], out: &mut [u32]) -> Option<usize> {
+    let (mut count, room) = (0, out.len());
+    let refusal =
+        unsafe { host::pasdrongel_next_word(after.as_ptr(), after.len(), out.as_mut_ptr(), room, &mut count) };
+    (refusal == 0).then_some(count)
+}
+
+pub fn read_utf8(bytes: &[u8], out: &mut [u32]) -> Option<usize> {
+    let (mut count, room) = (0, out.len());
+    let refusal =
+        unsafe { host::pasdrongel_read_utf8(bytes.as_ptr(), bytes.len(), out.as_mut_ptr(), room, &mut count) };
+    (refusal == 0).then_some(count)
+}
+
+pub fn write_utf8(letters: &[u32], out: &mut [u8]) -> Option<usize> {
+    let (mut count, room) = (0, out.len());
+    let refusal =
+        unsafe { host::pasdrongel_write_utf8(letters.as_ptr(), letters.len(), out.as_mut_ptr(), room, &mut count) };
+    (refusal == 0).then_some(count)
+}

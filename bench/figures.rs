@@ -1,0 +1,182 @@
+//! What is timed: ours, the Rust's, and for a key the floor, each over the whole note. A side answers how many units it
+//! did.
+
+use crate::calls::{self, Typist};
+use crate::note::{Habit, Note, ROOM};
+use std::hint::black_box;
+
+pub type Side = fn(&mut Note) -> usize;
+
+pub struct Figure {
+    pub name: &'static str,
+    pub what: &'static str,
+    pub unit: &'static str,
+    ours: Side,
+    rust: Option<Side>,
+    floor: Option<Side>,
+}
+
+impl Figure {
+    /// The sides that there are, with their names.
+    pub fn sides(&self) -> Vec<(&'static str, Side)> {
+        let sides = [("ours", Some(self.ours)), ("rust", self.rust), ("floor", self.floor)];
+        sides.into_iter().filter_map(|(name, side)| Some((name, side?))).collect()
+    }
+}
+
+#[cfg(engine)]
+macro_rules! engine {
+    ($side:ident) => {
+        Some(crate::engine::$side)
+    };
+}
+
+#[cfg(not(engine))]
+macro_rules! engine {
+    ($side:ident) => {
+        None
+    };
+}
+
+#[rustfmt::skip]
+pub const FIGURES: &[Figure] = &[
+    Figure { name: "key-space", what: "key by value, reset at each space", unit: "key",
+        ours: key_space, rust: engine!(key_space), floor: Some(floor_space) },
+    Figure { name: "key-line", what: "key by value, reset at each line's end", unit: "key",
+        ours: key_line, rust: engine!(key_line), floor: Some(floor_line) },
+    Figure { name: "key-one", what: "key by value, reset at the 33rd cell", unit: "key",
+        ours: key_one, rust: engine!(key_one), floor: Some(floor_one) },
+    Figure { name: "key-inner-space", what: "inner key, reset at each space", unit: "key",
+        ours: key_inner_space, rust: engine!(key_space), floor: Some(floor_space) },
+    Figure { name: "call-space", what: "C call on bytes, reset at each space", unit: "key",
+        ours: call_space, rust: engine!(key_space), floor: Some(floor_space) },
+    Figure { name: "verdict", what: "verdict", unit: "word",
+        ours: verdict, rust: engine!(verdict), floor: None },
+    Figure { name: "cut", what: "cut", unit: "word",
+        ours: cut, rust: engine!(cut), floor: None },
+    Figure { name: "read-utf8", what: "UTF-8 read", unit: "letter",
+        ours: read_utf8, rust: Some(from_utf8), floor: None },
+    Figure { name: "write-utf8", what: "UTF-8 write", unit: "letter",
+        ours: write_utf8, rust: Some(push), floor: None },
+    Figure { name: "word-by-number", what: "word by number, of all 5,963", unit: "word",
+        ours: word_by_number, rust: None, floor: None },
+    Figure { name: "next-word", what: "next word after each word of the note", unit: "word",
+        ours: next_word, rust: None, floor: None },
+];
+
+// Keys.
+
+fn typed(habit: &Habit, typist: Typist) -> usize {
+    let mut text = [0; ROOM];
+    black_box(typist(&habit.keys, &mut text));
+    black_box(text);
+    habit.typed
+}
+
+fn key_space(note: &mut Note) -> usize {
+    typed(&note.space, calls::keys)
+}
+
+fn key_line(note: &mut Note) -> usize {
+    typed(&note.line, calls::keys)
+}
+
+fn key_one(note: &mut Note) -> usize {
+    typed(&note.one, calls::keys)
+}
+
+fn key_inner_space(note: &mut Note) -> usize {
+    typed(&note.space, calls::sound_keys)
+}
+
+fn call_space(note: &mut Note) -> usize {
+    typed(&note.space, calls::host_keys)
+}
+
+fn floor_space(note: &mut Note) -> usize {
+    typed(&note.space, calls::floor)
+}
+
+fn floor_line(note: &mut Note) -> usize {
+    typed(&note.line, calls::floor)
+}
+
+fn floor_one(note: &mut Note) -> usize {
+    typed(&note.one, calls::floor)
+}
+
+// Words.
+
+fn verdict(note: &mut Note) -> usize {
+    for word in &note.words {
+        black_box(calls::verdict(&word.letters));
+    }
+    note.words.len()
+}
+
+fn cut(note: &mut Note) -> usize {
+    for word in &note.words {
+        black_box(calls::cut(&word.letters));
+    }
+    note.words.len()
+}
+
+fn word_by_number(note: &mut Note) -> usize {
+    const LISTED: usize = 5963;
+    for number in 0..LISTED {
+        black_box(calls::word(number, &mut note.letters));
+    }
+    LISTED
+}
+
+fn next_word(note: &mut Note) -> usize {
+    for word in &note.words {
+        black_box(calls::next_word(&word.letters, &mut note.letters));
+    }
+    note.words.len()
+}
+
+// UTF-8, a line of the note at a time.
+
+fn read_utf8(note: &mut Note) -> usize {
+    note.lines.iter().map(|line| calls::read_utf8(line.text.as_bytes(), &mut note.letters).unwrap_or(0)).sum()
+}
+
+/// Rust's library to the same letters: `from_utf8`, then its `chars`. It does not look whether they are in the alphabet.
+fn from_utf8(note: &mut Note) -> usize {
+    let mut read = 0;
+    for line in &note.lines {
+        let text = std::str::from_utf8(black_box(line.text.as_bytes())).expect("a line is UTF-8");
+        let mut count = 0;
+        for (place, letter) in note.letters.iter_mut().zip(text.chars()) {
+            *place = u32::from(letter);
+            count += 1;
+        }
+        black_box(&note.letters);
+        read += count;
+    }
+    read
+}
+
+fn write_utf8(note: &mut Note) -> usize {
+    let mut written = 0;
+    for line in &note.lines {
+        black_box(calls::write_utf8(&line.letters, &mut note.bytes));
+        written += line.letters.len();
+    }
+    written
+}
+
+/// Rust's library to the same bytes: `String::push`, into a string that has the room.
+fn push(note: &mut Note) -> usize {
+    let mut written = 0;
+    for line in &note.lines {
+        note.string.clear();
+        for &letter in &line.letters {
+            note.string.push(char::from_u32(letter).expect("a letter is a char"));
+        }
+        black_box(&note.string);
+        written += line.letters.len();
+    }
+    written
+}

@@ -1,0 +1,136 @@
+//! The note, made ready for both sides: keys as numbers and as `char`, words as letters and as `String`.
+
+use crate::calls::{self, Typist};
+
+/// U+000A among the keys of a habit: here the composition starts afresh.
+pub const RESET: u32 = 0x0a;
+
+/// More letters than a text can have.
+pub const ROOM: usize = 64;
+
+/// The keys, with a RESET wherever a host of this habit starts a fresh composition.
+pub struct Habit {
+    pub keys: Vec<u32>,
+    /// The same for the Rust.
+    #[cfg_attr(not(engine), allow(dead_code))]
+    pub chars: Vec<char>,
+    /// How many of them are typed: all but the RESETs.
+    pub typed: usize,
+}
+
+impl Habit {
+    fn new(keys: Vec<u32>) -> Habit {
+        let typed = keys.iter().filter(|&&key| key != RESET).count();
+        let chars = keys.iter().map(|&key| letter(key)).collect();
+        Habit { keys, chars, typed }
+    }
+}
+
+/// A word or a line, as each side takes it.
+pub struct Text {
+    pub letters: Vec<u32>,
+    pub text: String,
+}
+
+impl Text {
+    fn new(text: &str) -> Text {
+        Text { letters: text.chars().map(u32::from).collect(), text: text.to_string() }
+    }
+}
+
+pub struct Note {
+    /// A fresh composition after each space and each line.
+    pub space: Habit,
+    /// A fresh composition after each line; its spaces are typed.
+    pub line: Habit,
+    /// One line of all; a fresh composition where a key would need a 33rd cell, and that key opens it.
+    pub one: Habit,
+    /// The words that the keys make, without digits and points.
+    pub words: Vec<Text>,
+    /// The lines that the keys make, each word composed by itself.
+    pub lines: Vec<Text>,
+    pub letters: [u32; 256],
+    pub bytes: [u8; 256],
+    pub string: String,
+    #[cfg(engine)]
+    pub engine: crate::engine::Engine,
+}
+
+impl Note {
+    pub fn new(text: &str) -> Note {
+        let keys: Vec<u32> = text.chars().map(u32::from).collect();
+        let spaces_reset = |&key: &u32| if key == u32::from(' ') { RESET } else { key };
+        let lines: Vec<Text> = text.lines().map(|line| Text::new(&composed(line))).collect();
+        let words = lines.iter().flat_map(|line| line.text.split(|letter: char| !letter.is_alphabetic()));
+        let words = words.filter(|word| !word.is_empty()).map(Text::new).collect();
+        Note {
+            space: Habit::new(keys.iter().map(spaces_reset).collect()),
+            line: Habit::new(keys),
+            one: Habit::new(reset_when_full(text)),
+            words,
+            lines,
+            letters: [0; 256],
+            bytes: [0; 256],
+            string: String::with_capacity(256),
+            #[cfg(engine)]
+            engine: crate::engine::new(),
+        }
+    }
+
+    /// The sides do the same: after every key of every habit they have the same text, and no key is refused; and they
+    /// judge and cut every word alike.
+    pub fn check(&mut self) {
+        for habit in [&self.space, &self.line, &self.one] {
+            for keys in habit.keys.split(|&key| key == RESET) {
+                for typed in (1..=keys.len()).map(|count| &keys[..count]) {
+                    let text = text_of(typed, calls::keys).expect("no key of the note is refused");
+                    assert_eq!(text_of(typed, calls::sound_keys).as_ref(), Some(&text));
+                    assert_eq!(text_of(typed, calls::host_keys).as_ref(), Some(&text));
+                    #[cfg(engine)]
+                    assert_eq!(crate::engine::text_of(&mut self.engine, typed), text);
+                }
+            }
+        }
+        #[cfg(engine)]
+        for Text { letters, text } in &self.words {
+            assert_eq!((calls::verdict(letters), calls::cut(letters)), crate::engine::verdict_and_cut(text), "{text}");
+        }
+    }
+}
+
+fn letter(code: u32) -> char {
+    char::from_u32(code).expect("a letter is a char")
+}
+
+/// What the keys leave of a fresh composition, if none is refused.
+fn text_of(keys: &[u32], typist: Typist) -> Option<String> {
+    const NONE: u32 = u32::MAX;
+    let mut text = [NONE; ROOM];
+    let refused = typist(keys, &mut text);
+    let letters = text.iter().copied().take_while(|&code| code != NONE);
+    // a mark or a tone takes no cell, so the text is never longer than the last one
+    (refused == 0).then(|| letters.map(letter).collect())
+}
+
+/// The text of a line, each word composed by itself.
+fn composed(line: &str) -> String {
+    let words = line.split(' ').map(|word| {
+        let keys: Vec<u32> = word.chars().map(u32::from).collect();
+        text_of(&keys, calls::keys).expect("a word fits in a composition")
+    });
+    words.collect::<Vec<String>>().join(" ")
+}
+
+/// All keys in one line, with a RESET before each that is refused without it.
+fn reset_when_full(text: &str) -> Vec<u32> {
+    let (mut keys, mut since) = (Vec::new(), 0);
+    for key in text.trim_end().chars().map(|key| if key == '\n' { ' ' } else { key }) {
+        keys.push(u32::from(key));
+        if text_of(&keys[since..], calls::keys).is_none() {
+            let refused = keys.len() - 1;
+            keys.insert(refused, RESET);
+            since = refused + 1;
+        }
+    }
+    keys
+}

@@ -1,0 +1,5 @@
+pub mod Reading
+pub mod Tests
+pub mod Sound
+pub mod Writing
+pub mod Round

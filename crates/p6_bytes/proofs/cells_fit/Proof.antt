@@ -1,0 +1,22 @@
+use borrow.Author.Needs.{needs}
+use Prim.Native.Nat.{_≤_, _-_}
+use mathlib.Core.Path.{_≡_}
+use Rattle.p0_choice.specs.Choice.{each, count as numbers}
+use Rattle.p6_bytes.specs.Parts.{cellFits, cellsFit}
+use Rattle.p6_bytes.proofs.Tests.{fit-start, fit-bad, fit-on, fit-done}
+use Rattle.p6_bytes.proofs.cells_fit.Statement.{statement}
+use Rattle.p6_bytes.proofs.cells_fit.Tie as tie
+
+abbrev Inv-loop : tie.InvT-loop
+Inv-loop b n i₀ i = (i ≤ n) × (cellsFit b n ≡ each (cellFits b) (numbers (n - i) i))
+
+abbrev μ-loop : tie.MeasureT-loop
+μ-loop b n i₀ i = n - i
+
+ruleset answers = (needs, fit-start, fit-bad, fit-on, fit-done)
+
+pub cells-fit-spec : {M : Type 1} → statement M
+cells-fit-spec =
+    tie.close
+    (tie.spec
+    Inv-loop μ-loop (λ c. search answers) (λ c κs. search answers) (λ c. search answers) (λ c. search answers) (λ c. search answers) (λ c. search answers) (λ c. search answers))

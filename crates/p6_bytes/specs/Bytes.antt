@@ -1,0 +1,84 @@
+-- Document 01, "Port order": "the composition as bytes in an order that docs/ states". The method, the mode, the count, then
+-- 32 cells of 8 bytes: the base in four and the mark in two, low byte first, the tone, the capital flag.
+use Prim.Native.Nat.{ℕ, zero, suc, _+_, _*_, _/_, _%_}
+use mathlib.Core.Bool.{Bool, true, false}
+use mathlib.Core.List.{List, [], _∷_, _++_}
+use lib.Dec.{eqb, leb}
+use lib.ListN.{length, getD}
+use Rattle.p0_choice.specs.Choice.{pick, each, count as from}
+use Rattle.p2_input_method.specs.declared.InputMethod.{InputMethod}
+use Rattle.p2_input_method.specs.declared.InputMethod.the-variants.{Telex, Vni}
+use Rattle.p3_cells.specs.Cells.{limit, isSound}
+use Rattle.p3_cells.specs.declared.Cell.{Cell}
+use Rattle.p3_cells.specs.declared.Composition.{Composition}
+use Rattle.p3_cells.specs.declared.Mode.{Mode}
+use Rattle.p3_cells.specs.declared.Mode.the-variants.{Vietnamese, English}
+
+abbrev pub size : ℕ
+size = 259
+
+-- ---- a composition, written
+abbrev pub methodByte : InputMethod → ℕ
+methodByte Telex = 0
+methodByte Vni = 1
+
+abbrev pub modeByte : Mode → ℕ
+modeByte Vietnamese = 0
+modeByte English = 1
+
+abbrev pub flagByte : Bool → ℕ
+flagByte b = pick b 1 0
+
+unfoldable pub cellBytes : Cell → List ℕ
+cellBytes x =
+    (x .base % 256) ∷ (x .base / 256 % 256) ∷ (x .base / 65536 % 256) ∷ (x .base / 16777216) ∷ (x .mark % 256) ∷ (x .mark / 256) ∷ x .tone ∷ flagByte (x .upper) ∷ []
+
+abbrev pub cellsBytes : List Cell → List ℕ
+cellsBytes [] = []
+cellsBytes (x ∷ xs) = cellBytes x ++ cellsBytes xs
+
+unfoldable pub bytesOf : Composition → List ℕ
+bytesOf c = methodByte (c .method) ∷ modeByte (c .mode) ∷ c .count ∷ cellsBytes (c .cells)
+
+-- ---- and read
+abbrev pub byteAt : List ℕ → ℕ → ℕ
+byteAt b i = getD b i 0
+
+unfoldable pub cellAt : List ℕ → ℕ → Cell
+cellAt b at =
+    record {
+      base = byteAt b at + byteAt b (at + 1) * 256 + byteAt b (at + 2) * 65536 + byteAt b (at + 3) * 16777216;
+      mark = byteAt b (at + 4) + byteAt b (at + 5) * 256;
+      tone = byteAt b (at + 6);
+      upper = eqb (byteAt b (at + 7)) 1;
+    }
+
+abbrev pub cellsAt : ℕ → List ℕ → ℕ → List Cell
+cellsAt zero b at = []
+cellsAt (suc n) b at = cellAt b at ∷ cellsAt n b (at + 8)
+
+unfoldable pub methodOf : ℕ → InputMethod
+methodOf x = pick (eqb x 0) Telex Vni
+
+unfoldable pub modeOf : ℕ → Mode
+modeOf x = pick (eqb x 0) Vietnamese English
+
+unfoldable pub compositionOf : List ℕ → Composition
+compositionOf b =
+    record { cells = cellsAt limit b 3; method = methodOf (byteAt b 0); mode = modeOf (byteAt b 1); count = byteAt b 2 }
+
+-- ---- "Bytes of another length, or that spell no method, mode or cell, are not sound."
+-- where the cell at place i starts
+abbrev pub start : ℕ → ℕ
+start i = 3 + 8 * i
+
+-- a flag that is neither on nor off spells no cell
+unfoldable pub spellsCell : List ℕ → ℕ → Bool
+spellsCell b i = leb (byteAt b (start i + 7)) 1
+
+unfoldable pub bytesSound : List ℕ → Bool
+bytesSound b =
+    pick (eqb (length b) size)
+    (pick (leb (byteAt b 0) 1)
+    (pick (leb (byteAt b 1) 1) (pick (each (spellsCell b) (from limit 0)) (isSound (compositionOf b)) false) false) false)
+    false

@@ -1,0 +1,258 @@
+// The composition as bytes, for a host in C: read, tested and written. docs/BYTES.md states their order.
+ghost use mathlib.Core.Path.{_≡_};
+ghost use mathlib.Core.Bool.{true, false};
+ghost use mathlib.Core.List.{_++_};
+ghost use Prim.Native.Nat.{_+_, _*_, _-_, _≤_};
+ghost use lib.Dec.{eqb};
+ghost use lib.ListN.{length, take, drop};
+ghost use Rattle.p0_choice.specs.Choice.{pick};
+ghost use Rattle.p3_cells.specs.Cells.{limit, blanks, used, holding};
+ghost use Rattle.p6_bytes.specs.Bytes.{size, methodByte, modeByte, flagByte, cellBytes, cellsBytes, bytesOf, cellAt, start, methodOf, modeOf, cellsAt, compositionOf, bytesSound};
+ghost use Rattle.p6_bytes.specs.Parts.{cellFits, cellsFit, zeroFrom, zeros};
+use p2_input_method::InputMethod;
+use p3_cells as cells;
+use p3_cells::Cell;
+use p3_cells::Composition;
+use p3_cells::Mode;
+
+pub const SIZE: usize = 259;
+
+// ---- reading
+
+fn four(b0: u8, b1: u8, b2: u8, b3: u8) -> u32
+    ensures { λ r. ⌜ r ≡ b0 + b1 * 256 + b2 * 65536 + b3 * 16777216 ⌝ }
+{
+    (b0 as u32) + (b1 as u32) * 256 + (b2 as u32) * 65536 + (b3 as u32) * 16777216
+}
+
+fn two(b0: u8, b1: u8) -> u16
+    ensures { λ r. ⌜ r ≡ b0 + b1 * 256 ⌝ }
+{
+    (b0 as u16) + (b1 as u16) * 256
+}
+
+fn wide(b: u8) -> usize
+    ensures { λ r. ⌜ r ≡ b ⌝ }
+{
+    b as usize
+}
+
+fn cell_at(b: &[u8], at: usize) -> Cell
+    requires { ⌜ at + 8 ≤ length (now b) ⌝ }
+    ensures { λ r. ⌜ r ≡ cellAt (now (b .entry)) at ⌝ }
+{
+    let base = four(b[at], b[at + 1], b[at + 2], b[at + 3]);
+    let mark = two(b[at + 4], b[at + 5]);
+    Cell {
+        base,
+        mark,
+        tone: b[at + 6],
+        upper: b[at + 7] == 1,
+    }
+}
+
+fn method_of(x: u8) -> InputMethod
+    ensures { λ r. ⌜ r ≡ methodOf x ⌝ }
+{
+    if x == 0 {
+        return InputMethod::Telex;
+    }
+    InputMethod::Vni
+}
+
+fn mode_of(x: u8) -> Mode
+    ensures { λ r. ⌜ r ≡ modeOf x ⌝ }
+{
+    if x == 0 {
+        return Mode::Vietnamese;
+    }
+    Mode::English
+}
+
+// ---- soundness
+
+// The greater of two bytes. A loop of it has no way out, so that the search for a byte that is not 0 is done by vectors.
+fn greater(a: u8, b: u8) -> u8
+    ensures { λ r. ⌜ eqb r 0 ≡ pick (eqb a 0) (eqb b 0) false ⌝ }
+{
+    if a < b {
+        return b;
+    }
+    a
+}
+
+fn zero_from(b: &[u8], at: usize) -> bool
+    requires { ⌜ at ≤ length (now b) ⌝ }
+    ensures { λ r. ⌜ r ≡ zeroFrom (now (b .entry)) at ⌝ }
+{
+    let mut most: u8 = 0;
+    let mut i = at;
+    while i < b.len() {
+        most = greater(most, b[i]);
+        i += 1;
+    }
+    most == 0
+}
+
+fn cell_fits(b: &[u8], i: usize) -> bool
+    requires { ⌜ (length (now b) ≡ size) × (i + 1 ≤ limit) ⌝ }
+    ensures { λ r. ⌜ r ≡ cellFits (now (b .entry)) i ⌝ }
+{
+    let at = 3 + 8 * i;
+    if 1 < b[at + 7] {
+        return false;
+    }
+    let x = cell_at(b, at);
+    cells::is_cell(x)
+}
+
+fn cells_fit(b: &[u8], n: usize) -> bool
+    requires { ⌜ (length (now b) ≡ size) × (n ≤ limit) ⌝ }
+    ensures { λ r. ⌜ r ≡ cellsFit (now (b .entry)) n ⌝ }
+{
+    let mut i: usize = 0;
+    while i < n {
+        if !cell_fits(b, i) {
+            return false;
+        }
+        i += 1;
+    }
+    true
+}
+
+// The bytes of a sound composition.
+pub fn bytes_ok(b: &[u8]) -> bool
+    ensures { λ r. ⌜ r ≡ bytesSound (now (b .entry)) ⌝ }
+{
+    if b.len() != SIZE {
+        return false;
+    }
+    if 1 < b[0] {
+        return false;
+    }
+    if 1 < b[1] {
+        return false;
+    }
+    let n = wide(b[2]);
+    if cells::LIMIT < n {
+        return false;
+    }
+    if !cells_fit(b, n) {
+        return false;
+    }
+    zero_from(b, 3 + 8 * n)
+}
+
+// ---- the composition
+
+fn cells_of(b: &[u8], n: usize) -> [Cell; 32]
+    requires { ⌜ (length (now b) ≡ size) × (n ≤ limit) ⌝ }
+    ensures { λ r. ⌜ r ≡ cellsAt n (now (b .entry)) 3 ++ blanks (limit - n) ⌝ }
+{
+    let z = cells::blank();
+    let mut xs = [z; 32];
+    let mut i: usize = 0;
+    while i < n {
+        xs[i] = cell_at(b, 3 + 8 * i);
+        i += 1;
+    }
+    xs
+}
+
+pub fn decode(b: &[u8]) -> Composition
+    requires { ⌜ bytesSound (now b) ≡ true ⌝ }
+    ensures { λ r. ⌜ r ≡ compositionOf (now (b .entry)) ⌝ }
+{
+    let n = wide(b[2]);
+    let xs = cells_of(b, n);
+    let method = method_of(b[0]);
+    let mode = mode_of(b[1]);
+    Composition {
+        cells: xs,
+        method,
+        mode,
+        count: n,
+    }
+}
+
+// ---- writing
+
+fn method_byte(m: InputMethod) -> u8
+    ensures { λ r. ⌜ r ≡ methodByte m ⌝ }
+{
+    match m {
+        InputMethod::Telex => 0,
+        InputMethod::Vni => 1,
+    }
+}
+
+fn mode_byte(m: Mode) -> u8
+    ensures { λ r. ⌜ r ≡ modeByte m ⌝ }
+{
+    match m {
+        Mode::Vietnamese => 0,
+        Mode::English => 1,
+    }
+}
+
+fn flag_byte(on: bool) -> u8
+    ensures { λ r. ⌜ r ≡ flagByte on ⌝ }
+{
+    if on {
+        return 1;
+    }
+    0
+}
+
+fn put_cell(b: &mut [u8], at: usize, x: Cell)
+    requires { ⌜ at + 8 ≤ length (now b) ⌝ }
+    ensures { λ _. ⌜ now (b .exit) ≡ take at (now (b .entry)) ++ (cellBytes x ++ drop (at + 8) (now (b .entry))) ⌝ }
+{
+    b[at] = (x.base % 256) as u8;
+    b[at + 1] = (x.base / 256 % 256) as u8;
+    b[at + 2] = (x.base / 65536 % 256) as u8;
+    b[at + 3] = (x.base / 16777216) as u8;
+    b[at + 4] = (x.mark % 256) as u8;
+    b[at + 5] = (x.mark / 256) as u8;
+    b[at + 6] = x.tone;
+    b[at + 7] = flag_byte(x.upper);
+}
+
+fn put_cells(c: Composition, b: &mut [u8])
+    requires { ⌜ (length (now b) ≡ size) × (c .count ≤ limit) ⌝ }
+    ensures { λ _. ⌜ (length (now (b .exit)) ≡ size) × (now (b .exit) ≡ (take 3 (now (b .entry)) ++ cellsBytes (used c)) ++ drop (start (c .count)) (now (b .entry))) ⌝ }
+{
+    let n = c.count;
+    let mut i: usize = 0;
+    while i < n {
+        let x = c.cells[i];
+        put_cell(b, 3 + 8 * i, x);
+        i += 1;
+    }
+}
+
+fn put_zeros(b: &mut [u8], at: usize)
+    requires { ⌜ at ≤ length (now b) ⌝ }
+    ensures { λ _. ⌜ now (b .exit) ≡ take at (now (b .entry)) ++ zeros (length (now (b .entry)) - at) ⌝ }
+{
+    let mut i = at;
+    while i < b.len() {
+        b[i] = 0;
+        i += 1;
+    }
+}
+
+// Writes a composition whose cells past the count are blank: only the cells in use one by one.
+pub fn encode(c: Composition, b: &mut [u8])
+    requires { ⌜ (length (now b) ≡ size) × (c ≡ holding c (used c)) ⌝ }
+    ensures { λ _. ⌜ now (b .exit) ≡ bytesOf c ⌝ }
+{
+    let m = c.method;
+    let o = c.mode;
+    let n = c.count;
+    b[0] = method_byte(m);
+    b[1] = mode_byte(o);
+    b[2] = n as u8;
+    put_cells(c, b);
+    put_zeros(b, 3 + 8 * n);
+}

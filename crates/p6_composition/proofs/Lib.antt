@@ -1,0 +1,4 @@
+pub mod Steps
+pub mod Tidy
+pub mod Calls
+pub mod Kept

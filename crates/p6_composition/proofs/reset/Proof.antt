@@ -1,0 +1,12 @@
+use borrow.Author.Needs.{needs}
+use Rattle.p6_composition.proofs.Calls.{ok-sound, ok-size, unsound-answer, unsound-bytes, reset-is, reset-ready, sound-answer, sound-bytes}
+use Rattle.p6_composition.proofs.reset.Statement.{statement}
+use Rattle.p6_composition.proofs.reset.Tie as tie
+
+ruleset answers = (needs, ok-sound, ok-size, unsound-answer, unsound-bytes, reset-is, reset-ready, sound-answer, sound-bytes)
+
+pub reset-spec : {M : Type 1} → statement M
+reset-spec =
+    tie.close
+    (tie.spec
+    (λ c κs. search answers) (λ c. search answers) (λ c. search answers) (λ c κs. search answers) (λ c κs. search answers) (λ c κs. search answers) (λ c κs. search answers) (λ c. search answers) (λ c. search answers))

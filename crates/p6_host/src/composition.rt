@@ -1,0 +1,126 @@
+// A composition, in 259 bytes of the host (port order 3); docs/BYTES.md states their order.
+ghost use mathlib.Core.Path.{_≡_};
+ghost use lib.ListN.{length};
+ghost use Rattle.p0_refusals.specs.Answers.{refusalOf};
+ghost use Rattle.p3_calls.specs.Output.{textOut, popOut};
+ghost use Rattle.p3_key.specs.Process.{keyOut};
+ghost use Rattle.p6_bytes.specs.Bytes.{compositionOf, bytesSound};
+ghost use Rattle.p6_composition.specs.Calls.{answerOn, bytesOn, outOn, keyStep, resetStep, literalStep, popStep, undoStep, methodStep, modeStep, textOn, newOn, newBytes};
+ghost use Rattle.p6_host.specs.Counts.{countOut, behaviourOut};
+ghost use Rattle.p6_host.specs.CompositionCalls.{soundCode};
+use crate::answers::tell;
+use crate::answers::tell_behaviour;
+use p0_refusals::Refusal;
+use p0_refusals::number;
+use p0_refusals::refusal_of;
+
+#[no_mangle]
+pub extern "C" fn pasdrongel_new(state: &mut [u8], method: u32) -> u32
+    ensures { λ r. ⌜ r ≡ refusalOf (newOn (now (state .entry)) method) ⌝ }
+    ensures { λ r. ⌜ now (state .exit) ≡ newBytes (now (state .entry)) method ⌝ }
+{
+    let given = p6_composition::new(state, method);
+    refusal_of(given)
+}
+
+#[no_mangle]
+pub extern "C" fn pasdrongel_composition_ok(state: &[u8]) -> u32
+    ensures { λ r. ⌜ r ≡ soundCode (now (state .entry)) ⌝ }
+{
+    if p6_bytes::bytes_ok(state) {
+        return 0;
+    }
+    number(Refusal::Unsound)
+}
+
+#[no_mangle]
+pub extern "C" fn pasdrongel_key(
+    state: &mut [u8],
+    key: u32,
+    text: &mut [u32],
+    count: &mut usize,
+) -> u32
+    ensures { λ r. ⌜ r ≡ refusalOf (answerOn (now (state .entry)) (keyStep (now (state .entry)) key (now (text .entry)))) ⌝ }
+    ensures { λ r. ⌜ now (state .exit) ≡ bytesOn (now (state .entry)) (keyStep (now (state .entry)) key (now (text .entry))) ⌝ }
+    ensures { λ r. ⌜ now (text .exit) ≡ outOn (now (state .entry)) (now (text .entry)) (keyOut (compositionOf (now (state .entry))) key (now (text .entry))) ⌝ }
+    ensures { λ r. ⌜ now (count .exit) ≡ countOut (answerOn (now (state .entry)) (keyStep (now (state .entry)) key (now (text .entry)))) (now (count .entry)) ⌝ }
+{
+    let given = p6_composition::process_key(state, key, text);
+    tell(given, count)
+}
+
+#[no_mangle]
+pub extern "C" fn pasdrongel_text(state: &[u8], text: &mut [u32], count: &mut usize) -> u32
+    ensures { λ r. ⌜ r ≡ refusalOf (textOn (now (state .entry)) (length (now (text .entry)))) ⌝ }
+    ensures { λ r. ⌜ now (text .exit) ≡ outOn (now (state .entry)) (now (text .entry)) (textOut (compositionOf (now (state .entry))) (now (text .entry))) ⌝ }
+    ensures { λ r. ⌜ now (count .exit) ≡ countOut (textOn (now (state .entry)) (length (now (text .entry)))) (now (count .entry)) ⌝ }
+{
+    let given = p6_composition::get_output(state, text);
+    tell(given, count)
+}
+
+#[no_mangle]
+pub extern "C" fn pasdrongel_literal(state: &mut [u8], letter: u32) -> u32
+    ensures { λ r. ⌜ r ≡ refusalOf (answerOn (now (state .entry)) (literalStep (now (state .entry)) letter)) ⌝ }
+    ensures { λ r. ⌜ now (state .exit) ≡ bytesOn (now (state .entry)) (literalStep (now (state .entry)) letter) ⌝ }
+{
+    let given = p6_composition::append_literal(state, letter);
+    refusal_of(given)
+}
+
+#[no_mangle]
+pub extern "C" fn pasdrongel_remove_last(
+    state: &mut [u8],
+    text: &mut [u32],
+    count: &mut usize,
+) -> u32
+    ensures { λ r. ⌜ r ≡ refusalOf (answerOn (now (state .entry)) (popStep (now (state .entry)) (now (text .entry)))) ⌝ }
+    ensures { λ r. ⌜ now (state .exit) ≡ bytesOn (now (state .entry)) (popStep (now (state .entry)) (now (text .entry))) ⌝ }
+    ensures { λ r. ⌜ now (text .exit) ≡ outOn (now (state .entry)) (now (text .entry)) (popOut (compositionOf (now (state .entry))) (now (text .entry))) ⌝ }
+    ensures { λ r. ⌜ now (count .exit) ≡ countOut (answerOn (now (state .entry)) (popStep (now (state .entry)) (now (text .entry)))) (now (count .entry)) ⌝ }
+{
+    let given = p6_composition::pop_last(state, text);
+    tell(given, count)
+}
+
+#[no_mangle]
+pub extern "C" fn pasdrongel_undo(
+    state: &mut [u8],
+    trigger: u32,
+    raw: &[u32],
+    behaviour: &mut u32,
+) -> u32
+    ensures { λ r. ⌜ r ≡ refusalOf (answerOn (now (state .entry)) (undoStep (now (state .entry)) trigger (now (raw .entry)))) ⌝ }
+    ensures { λ r. ⌜ now (state .exit) ≡ bytesOn (now (state .entry)) (undoStep (now (state .entry)) trigger (now (raw .entry))) ⌝ }
+    ensures { λ r. ⌜ now (behaviour .exit) ≡ behaviourOut (answerOn (now (state .entry)) (undoStep (now (state .entry)) trigger (now (raw .entry)))) (now (behaviour .entry)) ⌝ }
+{
+    let given = p6_composition::undo_telex_transform(state, trigger, raw);
+    tell_behaviour(given, behaviour)
+}
+
+#[no_mangle]
+pub extern "C" fn pasdrongel_reset(state: &mut [u8]) -> u32
+    ensures { λ r. ⌜ r ≡ refusalOf (answerOn (now (state .entry)) (resetStep (now (state .entry)))) ⌝ }
+    ensures { λ r. ⌜ now (state .exit) ≡ bytesOn (now (state .entry)) (resetStep (now (state .entry))) ⌝ }
+{
+    let given = p6_composition::reset(state);
+    refusal_of(given)
+}
+
+#[no_mangle]
+pub extern "C" fn pasdrongel_set_method(state: &mut [u8], method: u32) -> u32
+    ensures { λ r. ⌜ r ≡ refusalOf (answerOn (now (state .entry)) (methodStep (now (state .entry)) method)) ⌝ }
+    ensures { λ r. ⌜ now (state .exit) ≡ bytesOn (now (state .entry)) (methodStep (now (state .entry)) method) ⌝ }
+{
+    let given = p6_composition::set_method(state, method);
+    refusal_of(given)
+}
+
+#[no_mangle]
+pub extern "C" fn pasdrongel_set_mode(state: &mut [u8], mode: u32) -> u32
+    ensures { λ r. ⌜ r ≡ refusalOf (answerOn (now (state .entry)) (modeStep (now (state .entry)) mode)) ⌝ }
+    ensures { λ r. ⌜ now (state .exit) ≡ bytesOn (now (state .entry)) (modeStep (now (state .entry)) mode) ⌝ }
+{
+    let given = p6_composition::set_mode(state, mode);
+    refusal_of(given)
+}

@@ -1,0 +1,3 @@
+pub mod Run
+pub mod Rows
+pub mod Typing

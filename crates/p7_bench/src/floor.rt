@@ -1,0 +1,58 @@
+// The floor: what no key can be spared. It appends its letter and copies the letters so far to the text.
+ghost use mathlib.Core.Path.{_≡_};
+ghost use Prim.Native.Nat.{_<_, _≤_};
+ghost use lib.ListN.{length, take};
+ghost use Rattle.p7_bench.specs.Run.{after};
+ghost use Rattle.p7_bench.specs.Floor.{copied, freePlace, lay, blankSheet};
+
+// The most letters in the row, as many as a composition has cells.
+const ROW: usize = 32;
+
+// Copies the first n letters of the row to the start of a text that has room for them.
+fn copy(row: &[u32], n: usize, text: &mut [u32])
+    requires { ⌜ n ≤ length (now row) ⌝ }
+    ensures { λ r. ⌜ now (text .exit) ≡ copied (take n (now (row .entry))) (now (text .entry)) ⌝ }
+{
+    if text.len() < n {
+        return;
+    }
+    let mut i: usize = 0;
+    while i < n {
+        text[i] = row[i];
+        i += 1;
+    }
+}
+
+// Where the next letter goes: a full row starts afresh.
+fn free_place(count: usize) -> usize
+    ensures { λ r. ⌜ (r ≡ freePlace count) × (r < 32) ⌝ }
+{
+    if count < ROW {
+        return count;
+    }
+    0
+}
+
+// Answers how many letters are in the row at the end.
+#[no_mangle]
+pub extern "C" fn pasdrongel_bench_floor(keys: &[u32], text: &mut [u32]) -> usize
+    ensures { λ r. ⌜ r ≡ length (after lay (blankSheet (now (text .entry))) (now (keys .entry)) .row) ⌝ }
+    ensures { λ r. ⌜ now (text .exit) ≡ after lay (blankSheet (now (text .entry))) (now (keys .entry)) .text ⌝ }
+{
+    let mut row = [0u32; ROW];
+    let mut count: usize = 0;
+    let mut i: usize = 0;
+    while i < keys.len() {
+        let k = keys[i];
+        i += 1;
+        if k == 0x0a {
+            count = 0;
+            continue;
+        }
+        let at = free_place(count);
+        row[at] = k;
+        count = at + 1;
+        copy(&row, count, text);
+    }
+    count
+}

@@ -1,0 +1,43 @@
+// A note typed under Telex, key by key.
+ghost use mathlib.Core.Path.{_≡_};
+ghost use Prim.Native.Nat.{_≤_};
+ghost use Rattle.p7_bench.specs.Run.{after};
+ghost use Rattle.p7_bench.specs.Typing.{refusalsOf, press, fresh};
+use p2_input_method::InputMethod;
+use p3_calls as calls;
+use p3_cells::Written;
+use p3_key as key;
+
+// 1 for a key that is refused, else 0.
+pub fn refusals(given: Written) -> usize
+    ensures { λ r. ⌜ (r ≡ refusalsOf given) × (r ≤ 1) ⌝ }
+{
+    match given {
+        Written::Wrote(_) => 0,
+        Written::Refused(_) => 1,
+    }
+}
+
+// Answers how many keys were refused; the text is what the last other one wrote.
+#[no_mangle]
+pub extern "C" fn pasdrongel_bench_keys(keys: &[u32], text: &mut [u32]) -> usize
+    ensures { λ r. ⌜ r ≡ after press (fresh (now (text .entry))) (now (keys .entry)) .refused ⌝ }
+    ensures { λ r. ⌜ now (text .exit) ≡ after press (fresh (now (text .entry))) (now (keys .entry)) .text ⌝ }
+{
+    let mut c = calls::new(InputMethod::Telex);
+    let mut refused: usize = 0;
+    let mut i: usize = 0;
+    while i < keys.len() {
+        let k = keys[i];
+        i += 1;
+        if k == 0x0a {
+            c = calls::new(InputMethod::Telex);
+            continue;
+        }
+        let typed = key::process_key(c, k, text);
+        let given = typed.answer;
+        refused += refusals(given);
+        c = typed.comp;
+    }
+    refused
+}

@@ -1,0 +1,4 @@
+pub mod Bytes
+pub mod Program
+pub mod Ends
+pub mod Parts

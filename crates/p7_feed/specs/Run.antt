@@ -1,0 +1,75 @@
+-- The run over bytes as they come: what is held of the line at hand, and what each byte prints.
+use Prim.Native.Nat.{ℕ}
+use mathlib.Core.Bool.{Bool, true, false}
+use mathlib.Core.List.{List, [], _∷_, _++_}
+use lib.Dec.{eqb, ltb}
+use lib.ListN.{length}
+use Rattle.p0_choice.specs.Choice.{pick}
+use Rattle.p7_line.specs.Line.{refusedLine, lineOut}
+use Rattle.p7_line.specs.Method.{methodOf}
+use Rattle.p7_line.specs.declared.Begun.{Begun}
+use Rattle.p7_line.specs.declared.Begun.the-variants.{With, Refused}
+use Rattle.p7_feed.specs.declared.Phase.{Phase}
+use Rattle.p7_feed.specs.declared.Phase.the-variants.{Start, Keys, Ended}
+
+pub record State : Type 0 where
+  pub held : List ℕ
+  pub phase : Phase
+
+abbrev pub state : List ℕ → Phase → State
+state l p = record { held = l; phase = p }
+
+-- one byte over the limit is held, by which the line is refused, and no more
+abbrev pub most : ℕ
+most = 257
+
+unfoldable pub hold : List ℕ → ℕ → List ℕ
+hold l b = pick (ltb (length l) most) (l ++ (b ∷ [])) l
+
+-- the phase after a line, and what the line prints
+unfoldable pub begunPhase : Begun → Phase
+begunPhase (With m) = Keys m
+begunPhase (Refused r) = Ended
+
+unfoldable pub begunOut : Begun → List ℕ
+begunOut (With m) = []
+begunOut (Refused r) = refusedLine r
+
+unfoldable pub endPhase : Phase → List ℕ → Phase
+endPhase Start l = begunPhase (methodOf l)
+endPhase (Keys m) l = Keys m
+endPhase Ended l = Ended
+
+unfoldable pub endOut : Phase → List ℕ → List ℕ
+endOut Start l = begunOut (methodOf l)
+endOut (Keys m) l = lineOut m l
+endOut Ended l = []
+
+-- a byte
+unfoldable pub stepTo : State → ℕ → State
+stepTo s b = pick (eqb b 10) (state [] (endPhase (s .phase) (s .held))) (state (hold (s .held) b) (s .phase))
+
+unfoldable pub stepOut : State → ℕ → List ℕ
+stepOut s b = pick (eqb b 10) (endOut (s .phase) (s .held)) []
+
+-- a part of the input
+unfoldable pub runTo : State → List ℕ → State
+runTo s [] = s
+runTo s (b ∷ bs) = runTo (stepTo s b) bs
+
+unfoldable pub runOut : State → List ℕ → List ℕ
+runOut s [] = []
+runOut s (b ∷ bs) = stepOut s b ++ runOut (stepTo s b) bs
+
+-- the end of the input: an unfinished line counts if it has a byte, and the method line always
+unfoldable pub finishKeys : Phase → List ℕ → List ℕ
+finishKeys p [] = []
+finishKeys p (b ∷ l) = endOut p (b ∷ l)
+
+unfoldable pub finishOf : Phase → List ℕ → List ℕ
+finishOf Start l = endOut Start l
+finishOf (Keys m) l = finishKeys (Keys m) l
+finishOf Ended l = []
+
+unfoldable pub finishOut : State → List ℕ
+finishOut s = finishOf (s .phase) (s .held)

@@ -1,0 +1,7 @@
+pub mod Bounded
+pub mod Written
+pub mod SameWord
+pub mod Keys
+pub mod Texts
+pub mod Shown
+pub mod Typing

@@ -1,0 +1,179 @@
+-- A line of keys on a fresh composition, key by key: what is left of the line decides.
+use Prim.Native.Nat.{ℕ, _+_, _<_, _≤_}
+use mathlib.Core.Path.{_≡_, refl, sym, ap, _∙_, subst}
+use mathlib.Core.Bool.{Bool, true, false}
+use mathlib.Core.List.{List, [], _∷_, _++_, map}
+use native.Mathlib.Omega.{arith}
+use native.Mathlib.Numerals.{add-one}
+use lib.Dec.{ltb}
+use lib.ListN.{length, getD, take, drop, drop-of-length-le, length-map}
+use lib.Seq.{drop-cons, take-at}
+use borrow.Author.Tests.{lt-ltb, le-ltb, ltb-true, ltb-false}
+use Rattle.p0_choice.specs.Choice.{pick, each}
+use Rattle.p0_refusals.specs.declared.Refusal.{Refusal}
+use Rattle.p0_refusals.specs.declared.Refusal.the-variants.{Full, Short, Foreign, Unsound}
+use Rattle.p1_letters.specs.Alphabet.{inAlphabet, allLetters}
+use Rattle.p2_input_method.specs.declared.InputMethod.{InputMethod}
+use Rattle.p3_cells.specs.Cells.{limit, isCell, isSound, used, holding}
+use Rattle.p3_cells.specs.Text.{shown, textOf}
+use Rattle.p3_cells.specs.declared.Cell.{Cell}
+use Rattle.p3_cells.specs.declared.Composition.{Composition}
+use Rattle.p3_cells.specs.declared.Mode.{Mode}
+use Rattle.p3_cells.specs.declared.Mode.the-variants.{Vietnamese}
+use Rattle.p3_cells.specs.declared.Written.{Written}
+use Rattle.p3_cells.specs.declared.Written.the-variants.{Wrote, Refused}
+use Rattle.p3_calls.specs.Settings.{empty, created}
+use Rattle.p3_calls.proofs.Kept.{new-sound}
+use Rattle.p3_cells.proofs.Holding.{used-holding, used-length, used-cells, count-fits, length-blanks}
+use Rattle.p3_step.specs.Key.{keyCells}
+use Rattle.p3_key.specs.Process.{inMode, next, written, isFull, keyAnswer, keyComposition, keyOut, keyed}
+use Rattle.p3_key.specs.declared.Keyed.{Keyed}
+use Rattle.p3_key.proofs.Kept.{key-length, key-sound}
+use Rattle.p5_utf8_write.proofs.Alphabet.{all-at}
+use Rattle.p7_line.specs.Line.{Typed, made, full, typed, typedLine, refusedLine, textLine}
+use Rattle.p7_line.proofs.Shown.{text-letters}
+
+-- ---- one key, on a sound Vietnamese composition with 32 places lent
+module _ (c : Composition) (k : ℕ) (o : List ℕ) (s : isSound c ≡ true) (v : c .mode ≡ Vietnamese) (a : inAlphabet k ≡ true) (l : length o ≡ 32) where
+  text-long : length (textOf (next c k)) ≡ length (next c k)
+  unfolding textOf
+  text-long = length-map (next c k) shown
+
+  answers : keyAnswer c k (length o) ≡ pick (ltb limit (length (next c k))) (Refused Full) (Wrote (length (next c k)))
+  unfolding keyAnswer isFull written
+  answers = told ∙ ap inAMode v ∙ go (ltb limit (length (next c k))) refl
+    where
+      inAMode : Mode → Written
+      inAMode x =
+          pick (inMode x (ltb limit (length (next c k))) false) (Refused Full)
+          (pick (ltb (length o) (length (inMode x (textOf (next c k)) (k ∷ [])))) (Refused Short) (Wrote (length (inMode x (textOf (next c k)) (k ∷ [])))))
+
+      told : keyAnswer c k (length o) ≡ inAMode (c .mode)
+      told = rw (s, a) refl
+
+      go : (b : Bool) → ltb limit (length (next c k)) ≡ b
+          → pick b (Refused Full) (pick (ltb (length o) (length (textOf (next c k)))) (Refused Short) (Wrote (length (textOf (next c k)))))
+          ≡ pick b (Refused Full) (Wrote (length (next c k)))
+      go true e = refl
+      go false e =
+          let h = ltb-false limit (length (next c k)) e in
+          rw (text-long, le-ltb (length o) (length (next c k)) (omega arith)) refl
+
+  -- 2, and nothing else
+  key-full : (r : Refusal) → keyAnswer c k (length o) ≡ Refused r → (limit < length (next c k)) × (r ≡ Full)
+  key-full r q = go (ltb limit (length (next c k))) refl (sym q ∙ answers)
+    where
+      go : (b : Bool) → ltb limit (length (next c k)) ≡ b → Refused r ≡ pick b (Refused Full) (Wrote (length (next c k))) → (limit < length (next c k)) × (r ≡ Full)
+      go true e h = (ltb-true limit (length (next c k)) e, cc)
+      go false e h = let z : _≡_ {A = ℕ} 0 1 = cc in absurd (omega arith)
+
+  key-done : (n : ℕ) → keyAnswer c k (length o) ≡ Wrote n → (length (next c k) ≤ limit) × (n ≡ length (next c k))
+  key-done n q = go (ltb limit (length (next c k))) refl (sym q ∙ answers)
+    where
+      go : (b : Bool) → ltb limit (length (next c k)) ≡ b → Wrote n ≡ pick b (Refused Full) (Wrote (length (next c k))) → (length (next c k) ≤ limit) × (n ≡ length (next c k))
+      go true e h = let z : _≡_ {A = ℕ} 0 1 = cc in absurd (omega arith)
+      go false e h = (ltb-false limit (length (next c k)) e, cc)
+
+  module _ (n : ℕ) (q : keyAnswer c k (length o) ≡ Wrote n) where
+    key-comp : keyComposition c k (length o) ≡ holding c (next c k)
+    unfolding keyComposition
+    key-comp = rw q (ap (λ (x : Mode). inMode x (holding c (next c k)) c) v)
+
+    key-text : take n (keyOut c k o) ≡ textOf (next c k)
+    unfolding keyOut written
+    key-text =
+        rw q
+        (ap (λ (x : Mode). take n (inMode x (textOf (next c k)) (k ∷ []) ++ drop (length (inMode x (textOf (next c k)) (k ∷ []))) o)) v
+        ∙ take-at (textOf (next c k)) (drop (length (textOf (next c k))) o) n (text-long ∙ sym (key-done n q .1)))
+
+method-held : (c : Composition) (xs : List Cell) → holding c xs .method ≡ c .method
+unfolding holding
+method-held c xs = refl
+
+mode-held : (c : Composition) (xs : List Cell) → holding c xs .mode ≡ c .mode
+unfolding holding
+mode-held c xs = refl
+
+-- ---- the line
+pub record Typing (m : InputMethod) (keys : List ℕ) (c : Composition) (text : List ℕ) (n i : ℕ) : Type 0 where
+  pub cells : length (c .cells) ≡ limit
+  pub sound : isSound c ≡ true
+  pub method : c .method ≡ m
+  pub mode : c .mode ≡ Vietnamese
+  pub rest : typed m [] keys ≡ typed m (used c) (drop i keys)
+  pub shown : take n text ≡ textOf (used c)
+
+typing-start : (m : InputMethod) (keys text : List ℕ) → Typing m keys (created m) text 0 0
+unfolding created empty used textOf
+typing-start m keys text =
+    record { cells = length-blanks limit; sound = new-sound m; method = refl; mode = refl; rest = refl; shown = refl }
+
+module _ (m : InputMethod) (keys : List ℕ) (c : Composition) (text : List ℕ) (n i : ℕ) (t : Typing m keys c text n i) where
+  pub typing-done : length keys ≤ i → typed m [] keys ≡ made (used c)
+  unfolding typed
+  typing-done h = t .rest ∙ rw (drop-of-length-le keys h) refl
+
+  module _ (a : allLetters keys ≡ true) (h : i < length keys) (l : length text ≡ 32) (k : ℕ) (e : k ≡ getD keys i 0) where
+    letter : inAlphabet k ≡ true
+    letter = rw e (all-at keys i a h)
+
+    cells-next : next c k ≡ keyCells m (used c) k
+    unfolding next
+    cells-next = rw (t .method) refl
+
+    turn : typed m [] keys ≡ pick (ltb limit (length (next c k))) full (typed m (next c k) (drop (i + 1) keys))
+    unfolding typed
+    turn = t .rest ∙ rw (add-one i, drop-cons keys i 0 h, ← e, ← cells-next) refl
+
+    pub typing-full : (y : Keyed) (r : Refusal) → y ≡ keyed c k text → y .answer ≡ Refused r → (typed m [] keys ≡ full) × (r ≡ Full)
+    unfolding keyed
+    typing-full y r d q =
+        let w = key-full c k text (t .sound) (t .mode) letter l r (sym (ap (λ (z : Keyed). z .answer) d) ∙ q) in
+        (turn ∙ rw (lt-ltb limit (length (next c k)) (w .0)) refl, w .1)
+
+    pub typing-on : (y : Keyed) (j : ℕ) (new : List ℕ) → y ≡ keyed c k text → y .answer ≡ Wrote j → new ≡ keyOut c k text → Typing m keys (y .comp) new j (i + 1)
+    unfolding keyed
+    typing-on y j new d q f =
+        let g : keyAnswer c k (length text) ≡ Wrote j = sym (ap (λ (z : Keyed). z .answer) d) ∙ q in
+        let w = key-done c k text (t .sound) (t .mode) letter l j g in
+        let b : y .comp ≡ holding c (next c k) = ap (λ (z : Keyed). z .comp) d ∙ key-comp c k text (t .sound) (t .mode) letter l j g in
+        let u : used (y .comp) ≡ next c k = ap used b ∙ used-holding c (next c k) in
+        let p : y .comp ≡ keyComposition c k (length text) = ap (λ (z : Keyed). z .comp) d in
+        record {
+          cells = rw p (key-length c k (length text) (t .sound) (t .cells));
+          sound = rw p (key-sound c k (length text) (t .sound) (t .cells));
+          method = ap (λ (z : Composition). z .method) b ∙ method-held c (next c k) ∙ t .method;
+          mode = ap (λ (z : Composition). z .mode) b ∙ mode-held c (next c k) ∙ t .mode;
+          rest = turn ∙ rw (le-ltb limit (length (next c k)) (w .0), u) refl;
+          shown = rw (f, u) (key-text c k text (t .sound) (t .mode) letter l j g);
+        }
+
+-- ---- what the line prints; the composition began as c₀, new with the method
+module _ (m : InputMethod) (keys : List ℕ) (c₀ : Composition) (e : c₀ ≡ created m) where
+  begun : c₀ .method ≡ m
+  unfolding created empty
+  begun = ap (λ (d : Composition). d .method) e
+
+  pub typing-first : (text : List ℕ) → Typing (c₀ .method) keys c₀ text 0 0
+  unfolding created empty
+  typing-first text = subst (λ (d : Composition). Typing (d .method) keys d text 0 0) (sym e) (typing-start m keys text)
+
+  module _ (c : Composition) (text : List ℕ) (n i : ℕ) (t : Typing (c₀ .method) keys c text n i) where
+    pub line-refused : allLetters keys ≡ true → i < length keys → length text ≡ 32 → (k : ℕ) → k ≡ getD keys i 0 → (y : Keyed) (r : Refusal) → y ≡ keyed c k text
+        → y .answer ≡ Refused r → typedLine (typed m [] keys) ≡ refusedLine r
+    unfolding typedLine
+    line-refused a h l k q y r d f =
+        let w = typing-full (c₀ .method) keys c text n i t a h l k q y r d f in
+        rw (← begun, w .0, w .1) refl
+
+    pub line-typed : length keys ≤ i → typedLine (typed m [] keys) ≡ textLine (take n text)
+    unfolding typedLine
+    line-typed h = rw (← begun, typing-done (c₀ .method) keys c text n i t h, t .shown) refl
+
+    pub text-fits : (length (take n text) ≤ 32) × (allLetters (take n text) ≡ true)
+    unfolding textOf
+    text-fits =
+        let u = used-length c (t .sound) (t .cells) in
+        let f = count-fits c (t .sound) in
+        let g : length (take n text) ≡ length (used c) = ap length (t .shown) ∙ length-map (used c) shown in
+        (omega arith, ap allLetters (t .shown) ∙ text-letters (used c) (used-cells c (t .sound) (t .cells)))

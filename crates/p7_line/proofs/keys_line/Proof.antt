@@ -1,0 +1,75 @@
+-- The composition stays sound, and what is left of the keys decides what the line prints.
+use borrow.Author.Needs.{needs}
+use mathlib.Core.Path.{_≡_, refl, sym, _∙_}
+use native.Mathlib.Omega.{arith}
+use Prim.Native.Nat.{_≤_, _-_}
+use lib.ListN.{length}
+use Rattle.p7_line.proofs.Typing.{Typing, typing-first, typing-on, line-refused, line-typed, text-fits}
+use Rattle.p7_line.proofs.keys_line.Statement.{statement}
+use Rattle.p7_line.proofs.keys_line.Tie as tie
+
+abbrev Inv-loop : tie.InvT-loop
+Inv-loop keys out₀ at c₀ text₀ count₀ i₀ out c text count i =
+    (i ≤ length keys) × (length text ≡ 32) × (length out ≡ length out₀) × (out ≡ out₀) × Typing (c₀ .method) keys c text count i
+
+abbrev μ-loop : tie.MeasureT-loop
+μ-loop keys out₀ at c₀ text₀ count₀ i₀ out c text count i = length keys - i
+
+loop-holds : tie.Need-loop-holds Inv-loop μ-loop
+loop-holds c =
+    let z = c .before .before .before .args in
+    (search needs, search needs, refl, refl, typing-first (z .m) (z .keys .now) (c .new .result) (c .new .ensures) _)
+
+key-requires : tie.Need-process-sound-key-requires Inv-loop μ-loop
+key-requires c κs = c .before .before .before .loop .inv .4 .sound
+
+returns : tie.Need-returns Inv-loop μ-loop
+returns c =
+    let l = c .before .before .before .before .before .before .before .before .before .before .before .before .loop in
+    let z = c .before .before .before .before .before .before .before .before .before .before .before .before .before .before .before .before in
+    let n = c .before .before .before .before .before .before .before .before .before .before .before .before .before .new in
+    let k = c .before .before .before .before .before .before .before .before .process-sound-key in
+    let p = c .before .before .put-refused in
+    let q = line-refused (z .args .m) (z .args .keys .now) (n .result) (n .ensures) (l .c) (l .text) (l .count) (l .i) (l .inv .4) (z .pre .0)
+    (c .before .before .before .before .before .before .before .before .before .before .before .loop-test .taken) (l .inv .1) _ refl (k .result) _ (k .ensures .0) (c .before .before .before .before .before .given .given .1) in
+    (rw q (p .ensures .0), p .ensures .1, rw (q, ← l .inv .3) (p .ensures .2))
+
+loop-again : tie.Need-loop-again Inv-loop μ-loop
+loop-again c =
+    let l = c .before .before .before .before .before .before .before .before .before .loop in
+    let z = c .before .before .before .before .before .before .before .before .before .before .before .before .before in
+    let n = c .before .before .before .before .before .before .before .before .before .before .new in
+    let k = c .before .before .before .before .before .process-sound-key in (
+      search needs,
+      search needs,
+      l .inv .2,
+      l .inv .3,
+      typing-on (n .result .method) (z .args .keys .now) (l .c) (l .text) (l .count) (l .i) (l .inv .4) (z .pre .0) (c .before .before .before .before .before .before .before .before .loop-test .taken) (l .inv .1)
+          _ refl (k .result) _ _ (k .ensures .0) (c .before .before .given2 .given .1) (k .ensures .1),
+    )
+
+text-requires : tie.Need-text-line-requires Inv-loop μ-loop
+text-requires c κs =
+    let l = c .before .before .before .before .loop in
+    let z = c .before .before .before .before .before .before .before .before in
+    let n = c .before .before .before .before .before .new in
+    let f = text-fits (z .args .m) (z .args .keys .now) (n .result) (n .ensures) (l .c) (l .text) (l .count) (l .i) (l .inv .4) in
+    (rw (c .before .first .ensures) (f .0), rw (c .before .first .ensures) (f .1), search needs)
+
+returns-2 : tie.Need-returns-2 Inv-loop μ-loop
+returns-2 c =
+    let l = c .before .before .before .before .before .before .before .loop in
+    let z = c .before .before .before .before .before .before .before .before .before .before .before in
+    let n = c .before .before .before .before .before .before .before .before .new in
+    let f = c .before .before .before .before .first in
+    let t = c .before .before .text-line in
+    let q = line-typed (z .args .m) (z .args .keys .now) (n .result) (n .ensures) (l .c) (l .text) (l .count) (l .i) (l .inv .4) (c .before .before .before .before .before .before .loop-test .left) in
+    (rw (q, ← f .ensures) (t .ensures .0), t .ensures .1, rw (q, ← f .ensures, ← l .inv .3) (t .ensures .2))
+
+pub keys-line-spec : {M : Type 1} → statement M
+keys-line-spec =
+    tie.close
+    (tie.spec Inv-loop μ-loop
+    (λ c κs. search needs) loop-holds (λ c. search needs) (λ c. search needs) (λ c. search needs) (λ c. search needs) key-requires
+    (λ c. search needs) (λ c κs. search needs) (λ c. search needs) returns (λ c. search needs) (λ c. search needs) loop-again
+    (λ c. search needs) (λ c κs. search needs) text-requires (λ c. search needs) returns-2)

@@ -1,0 +1,53 @@
+-- Document 01, "Examples to hold it to": what the program `wordline` prints for "one line of keys per fresh composition".
+use Prim.Native.Nat.{ℕ, _+_}
+use mathlib.Core.Bool.{Bool, true, false}
+use mathlib.Core.List.{List, [], _∷_, _++_}
+use lib.Dec.{ltb}
+use lib.ListN.{length}
+use Rattle.p0_choice.specs.Choice.{pick}
+use Rattle.p0_choice.specs.Text.{word}
+use Rattle.p0_refusals.specs.Refusals.{numberOf}
+use Rattle.p0_refusals.specs.declared.Refusal.{Refusal}
+use Rattle.p0_refusals.specs.declared.Refusal.the-variants.{Full}
+use Rattle.p2_input_method.specs.declared.InputMethod.{InputMethod}
+use Rattle.p3_cells.specs.Cells.{limit}
+use Rattle.p3_cells.specs.Text.{textOf}
+use Rattle.p3_cells.specs.declared.Cell.{Cell}
+use Rattle.p3_step.specs.Key.{keyCells}
+use Rattle.p4_spelling.specs.Verdict.{verdict}
+use Rattle.p0_refusals.specs.Answers.{Outcome, writes, refuses}
+use Rattle.p5_utf8.specs.Rfc3629.{encodeAll}
+use Rattle.p5_utf8_read.specs.Read.{reading}
+
+-- a number of the table, of which none is over 10, in decimal digits
+unfoldable pub digits : ℕ → List ℕ
+digits n = pick (ltb n 10) ((48 + n) ∷ []) (49 ∷ (38 + n) ∷ [])
+
+-- "a refused line prints `refused` and the number after one space. Every printed line ends in U+000A"
+unfoldable pub refusedLine : Refusal → List ℕ
+refusedLine r = word "refused " ++ (digits (numberOf r) ++ (10 ∷ []))
+
+-- "Per line it prints the text, a tab, and yes or no for the text's verdict"
+unfoldable pub textLine : List ℕ → List ℕ
+textLine text = encodeAll text ++ (9 ∷ (pick (verdict text) (word "yes") (word "no") ++ (10 ∷ [])))
+
+-- the cells that a line of keys makes, or none where "a letter must be appended and 32 cells are used"
+pub data Typed : Type 0 where
+  made : List Cell → Typed
+  full : Typed
+
+unfoldable pub typed : InputMethod → List Cell → List ℕ → Typed
+typed m cs [] = made cs
+typed m cs (k ∷ ks) = pick (ltb limit (length (keyCells m cs k))) full (typed m (keyCells m cs k) ks)
+
+unfoldable pub typedLine : Typed → List ℕ
+typedLine (made cs) = textLine (textOf cs)
+typedLine full = refusedLine Full
+
+-- the bytes of a line are keys; the refusals of reading them go before 2
+unfoldable pub keysLine : InputMethod → Outcome → List ℕ
+keysLine m (writes ks) = typedLine (typed m [] ks)
+keysLine m (refuses r) = refusedLine r
+
+unfoldable pub lineOut : InputMethod → List ℕ → List ℕ
+lineOut m line = keysLine m (reading line)

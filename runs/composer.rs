@@ -1,0 +1,473 @@
+//! The composer: every call on a composition against the Rust's engine, on the bytes that C lends. Each comparison is of
+//! one call: the number that it returns, the whole lent output, and every byte of the composition.
+
+use crate::composition::{show_bytes, Call, Composition, Left, Oracle, State, CELLS, MOST_BYTES, ROOM, SIZE};
+use crate::engine::bamboo::spy::Cell;
+use crate::engine::bamboo::Mode;
+use crate::input_method::InputMethod::{self, Telex, Vni};
+use crate::oracle::{self, alphabet, MARKS, TONE_KEYS, WORD_LETTERS};
+use crate::report::{Random, Run};
+use crate::session;
+
+/// The keys that compose under each method, and letters that its steps look at or pass over.
+const TELEX_KEYS: &str = "aeouiydwsfrxjqgnb .";
+const VNI_KEYS: &str = "aeouiyd678912345qgnb .";
+
+/// Numbers that are no letter: just outside the alphabet, and far from it.
+const OUTSIDE: [u32; 9] = [0x80, 0xff, 0x104, 0x300, 0x1efa, 0xd800, 0x110000, 0x80000061, 0xffffffff];
+
+/// Cells that no key makes stand among these: an A with the flag off, a toned consonant, ă with no mark, a flagged U+0000.
+const ODD_BASES: &str = "aAăĂâeêoOôơuUưiyYqQgGdDđbw .\0à1";
+
+pub fn fixed() -> Vec<String> {
+    session::fixed()
+}
+
+pub fn compare(run: &mut Run) {
+    let mut composer = Composer { run, oracle: Oracle::new() };
+    composer.strings();
+    composer.reaches();
+    composer.pairs();
+    composer.handed_in();
+    composer.undo();
+    composer.rooms();
+    composer.full();
+    composer.unsound();
+    composer.orders();
+    composer.sessions();
+}
+
+pub fn codes(text: &str) -> Vec<u32> {
+    text.chars().map(u32::from).collect()
+}
+
+fn keys_of(method: InputMethod) -> Vec<u32> {
+    codes(if method == Telex { TELEX_KEYS } else { VNI_KEYS })
+}
+
+/// A letter as it stands after it is appended.
+pub fn plain(base: char) -> Cell {
+    Cell { base, mark: None, tone: None, upper: base.is_uppercase() }
+}
+
+pub fn handed(method: InputMethod, cells: &[Cell]) -> Composition {
+    Composition { method, mode: Mode::Vietnamese, cells: cells.to_vec() }
+}
+
+/// Letters that were appended, and that no key composed.
+fn appended(method: InputMethod, letters: &str) -> State {
+    handed(method, &letters.chars().map(plain).collect::<Vec<Cell>>()).bytes()
+}
+
+/// Each base of `ODD_BASES`, marked and not, with some tones, with the flag on and off.
+pub fn odd_cells() -> Vec<Cell> {
+    let mut cells = Vec::new();
+    for base in ODD_BASES.chars() {
+        let marks = if MARKS.contains(base) { &[None, Some(base)][..] } else { &[None] };
+        for &mark in marks {
+            for tone in [None, Some('s'), Some('1')] {
+                cells.extend([false, true].map(|upper| Cell { base, mark, tone, upper }));
+            }
+        }
+    }
+    cells
+}
+
+fn random_cell(random: &mut Random) -> Cell {
+    let base = if random.below(2) == 0 {
+        oracle::letter(random.of(alphabet())).expect("a letter")
+    } else {
+        random.of(&ODD_BASES.chars().collect::<Vec<char>>())
+    };
+    let mark = Some(base).filter(|&base| MARKS.contains(base) && random.below(2) == 0);
+    let tone = TONE_KEYS.chars().nth(random.below(30));
+    Cell { base, mark, tone, upper: if random.below(4) == 0 { random.below(2) == 0 } else { base.is_uppercase() } }
+}
+
+pub fn random_composition(random: &mut Random, count: usize) -> Composition {
+    let cells = (0..count).map(|_| random_cell(random)).collect();
+    let mode = if random.below(8) == 0 { Mode::English } else { Mode::Vietnamese };
+    Composition { method: random.of(&[Telex, Vni]), mode, cells }
+}
+
+struct Composer<'a> {
+    run: &'a mut Run,
+    oracle: Oracle,
+}
+
+impl Composer<'_> {
+    /// Compares one call on any bytes, and gives what the oracle leaves.
+    fn call(&mut self, bytes: &[u8], call: Call) -> Left {
+        let (ours, theirs) = (Left::of(bytes, call), self.oracle.left(bytes, call));
+        let size = || {
+            let (cells, numbers) = (bytes.get(2).copied().unwrap_or(0).into(), call.numbers());
+            [vec![0; cells], numbers.clone(), numbers, bytes.iter().map(|&byte| byte.into()).collect()].concat()
+        };
+        self.run.compare(call.name(), &ours, &theirs, size, || format!("{call:?}; on {}", show_bytes(bytes)));
+        theirs
+    }
+
+    fn step(&mut self, state: &State, call: Call) -> State {
+        self.call(state, call).state()
+    }
+
+    fn key(&mut self, state: &State, key: u32) -> State {
+        self.step(state, Call::Key(key, ROOM))
+    }
+
+    fn each_key(&mut self, state: &State, keys: &[u32]) {
+        for &key in keys {
+            self.key(state, key);
+        }
+    }
+
+    /// Every string of up to `length` of the keys.
+    fn extend(&mut self, state: &State, keys: &[u32], length: usize) {
+        for &key in keys {
+            let after = self.key(state, key);
+            if length > 1 {
+                self.extend(&after, keys, length - 1);
+            }
+        }
+    }
+
+    fn strings(&mut self) {
+        for (method, name, keys, length) in [
+            (Telex, "Telex", "aeouidwsqgb ", 6),
+            (Vni, "VNI", "aeoud67891b ", 6),
+            (Telex, "Telex", "aAoOuUwWsSdDqb.", 5),
+            (Vni, "VNI", "aAoOuUdD6789q1.", 5),
+            (Telex, "Telex", TELEX_KEYS, 4),
+            (Vni, "VNI", VNI_KEYS, 4),
+        ] {
+            self.run.begin(&format!("key: every {name} string of up to {length} over `{keys}`"));
+            self.extend(&appended(method, ""), &codes(keys), length);
+        }
+    }
+
+    /// The mark step and the uo step go back 5 cells, over letters of any kind or only over some.
+    fn reaches(&mut self) {
+        const STARTS: [&str; 22] = [
+            "a", "e", "o", "u", "d", "A", "E", "O", "U", "D", "uo", "Uo", "uO", "UO", "quo", "uou", "ua", "Ua", "qua", "QUa",
+            "oa", "ưo",
+        ];
+        self.run.begin("key: 0 to 9 letters between a letter and each key, of one kind");
+        for method in [Telex, Vni] {
+            let keys: Vec<u32> = keys_of(method).into_iter().chain(codes("WADEO")).collect();
+            for start in STARTS {
+                for between in 0..=9 {
+                    for filler in "bđ .iơAw71".chars() {
+                        for lead in ["", "b", "uo bbbbbbbbbbb"] {
+                            let filled = filler.to_string().repeat(between);
+                            let state = appended(method, &[lead, start, &filled].concat());
+                            self.each_key(&state, &keys);
+                        }
+                    }
+                }
+            }
+        }
+        self.run.begin("key: 0 to 9 letters between a letter and each key, of any kind");
+        for _ in self.run.times(20_000) {
+            let random = self.run.random();
+            let mut cells: Vec<Cell> = random.of(&STARTS).chars().map(plain).collect();
+            for _ in 0..random.below(10) {
+                cells.push(random_cell(random));
+            }
+            let method = random.of(&[Telex, Vni]);
+            let state = handed(method, &cells).bytes();
+            self.each_key(&state, &keys_of(method));
+        }
+    }
+
+    fn pairs(&mut self) {
+        self.run.begin("key: every pair of letters, and each composing key after it");
+        for method in [Telex, Vni] {
+            let keys = keys_of(method);
+            for &first in alphabet() {
+                let one = self.key(&appended(method, ""), first);
+                for &second in alphabet() {
+                    let two = self.key(&one, second);
+                    self.each_key(&two, &keys);
+                }
+            }
+        }
+        self.run.begin("key: every letter in English mode, room 0 to 2");
+        for &letter in alphabet() {
+            for cells in [vec![], vec![plain('a')]] {
+                let state = Composition { mode: Mode::English, ..handed(Telex, &cells) }.bytes();
+                (0..=2).for_each(|room| drop(self.call(&state, Call::Key(letter, room))));
+            }
+        }
+    }
+
+    /// Sound cells, whether a key makes them or not.
+    fn handed_in(&mut self) {
+        let odd = odd_cells();
+        self.run.begin("every call: each cell of a choice of odd ones, alone, and under every key and literal");
+        for &cell in &odd {
+            for method in [Telex, Vni] {
+                let state = handed(method, &[cell]).bytes();
+                self.others(&state);
+                self.each_key(&state, alphabet());
+                alphabet().iter().for_each(|&letter| drop(self.call(&state, Call::Literal(letter))));
+            }
+        }
+        self.run.begin("key: each pair of odd cells under each composing key");
+        for &first in &odd {
+            for &second in &odd {
+                for method in [Telex, Vni] {
+                    let state = handed(method, &[first, second]).bytes();
+                    self.each_key(&state, &keys_of(method));
+                }
+            }
+        }
+        self.run.begin("every call: random cells, 0 to 32 of them");
+        for _ in self.run.times(20_000) {
+            let count = self.run.random().below(CELLS + 1);
+            let composition = random_composition(self.run.random(), count);
+            let state = composition.bytes();
+            self.others(&state);
+            self.each_key(&state, &keys_of(composition.method));
+        }
+    }
+
+    /// Each call but the key, the literal and undo of something.
+    fn others(&mut self, state: &[u8]) {
+        use Call::*;
+        for call in [
+            New(0), New(1), Text(ROOM), RemoveLast(ROOM), Reset, SetMethod(0), SetMethod(1), SetMode(0), SetMode(1),
+            Undo('w'.into(), &codes("aw")), Undo('s'.into(), &codes("s")), CompositionOk,
+        ] {
+            self.call(state, call);
+        }
+    }
+
+    fn undo(&mut self) {
+        const MARKING: &str = "aeoudws";
+        let marked = |base, tone, upper| Cell { base, mark: Some(base), tone, upper };
+        let toned = |base, tone| Cell { base, mark: None, tone: Some(tone), upper: false };
+        let stands: Vec<State> = [
+            MARKS.chars().map(|base| marked(base, None, false)).collect(),
+            MARKS.chars().map(|base| marked(base, None, true)).collect(),
+            MARKS.chars().map(|base| marked(base, Some('s'), false)).collect(),
+            vec![marked('ă', Some('s'), false), marked('ă', None, false), marked('ơ', None, true), toned('b', 's')],
+            vec![toned('a', '1'), toned('o', 's'), marked('ư', Some('f'), false), marked('đ', None, false), plain('ư')],
+        ]
+        .iter()
+        .map(|cells: &Vec<Cell>| handed(Telex, cells).bytes())
+        .collect();
+        let triggers = codes("aeoudwsf1\0AWD");
+        self.run.begin(&format!("undo: every raw string of up to 5 over `{MARKING}`, each trigger, typed and handed in"));
+        let mut raws = vec![vec![]];
+        for start in 0.. {
+            let Some(raw) = raws.get(start).cloned() else { break };
+            if raw.len() < 5 {
+                raws.extend(codes(MARKING).into_iter().map(|key| [&raw[..], &[key]].concat()));
+            }
+            let typed = raw.iter().fold(appended(Telex, ""), |state, &key| self.key(&state, key));
+            let before = raw.iter().take(raw.len().saturating_sub(1)).fold(appended(Telex, ""), |s, &key| self.key(&s, key));
+            for &trigger in &triggers {
+                for state in stands.iter().chain([&typed, &before]) {
+                    self.call(state, Call::Undo(trigger, &raw));
+                }
+            }
+        }
+        self.run.begin("undo: random raw strings of up to 66 letters, capitals and foreign letters among them, both methods");
+        for _ in self.run.times(100_000) {
+            let random = self.run.random();
+            let count = random.below(8);
+            let state = random_composition(random, count).bytes();
+            let length = if random.below(4) == 0 { random.below(WORD_LETTERS + 3) } else { random.below(6) };
+            let pool = codes("aAeEoOuUdDwWsSfiyb1Ăđ");
+            let mut raw: Vec<u32> = (0..length).map(|_| random.of(&pool)).collect();
+            if random.below(20) == 0 && length > 0 {
+                raw[random.below(length)] = random.of(&OUTSIDE);
+            }
+            let trigger = if random.below(30) == 0 { random.of(&OUTSIDE) } else { random.of(&pool) };
+            self.call(&state, Call::Undo(trigger, &raw));
+        }
+    }
+
+    fn rooms(&mut self) {
+        self.run.begin("key, text, remove_last: 0 to 32 cells, room 0 to 34");
+        for count in 0..=CELLS {
+            for _ in self.run.times(4) {
+                let state = random_composition(self.run.random(), count).bytes();
+                for room in 0..=CELLS + 2 {
+                    for key in codes("aws71bW") {
+                        self.call(&state, Call::Key(key, room));
+                    }
+                    self.call(&state, Call::Text(room));
+                    self.call(&state, Call::RemoveLast(room));
+                }
+            }
+        }
+    }
+
+    fn full(&mut self) {
+        self.run.begin("key, literal: every letter on 30, 31 and 32 cells, then text and remove_last");
+        for method in [Telex, Vni] {
+            for count in CELLS - 2..=CELLS {
+                for filler in ["b", "a", "uo", "a.", "đ"] {
+                    let cells: String = filler.chars().cycle().take(count).collect();
+                    let state = appended(method, &cells);
+                    for &letter in alphabet() {
+                        let keyed = self.key(&state, letter);
+                        let keyed = self.key(&keyed, letter);
+                        self.call(&keyed, Call::RemoveLast(ROOM));
+                        let literal = self.step(&state, Call::Literal(letter));
+                        self.call(&literal, Call::Text(ROOM));
+                        self.call(&literal, Call::Literal(letter));
+                    }
+                }
+            }
+        }
+        self.run.begin("key, literal: numbers that are no letter, on 0, 1 and 32 cells, in either mode");
+        for count in [0, 1, CELLS] {
+            for mode in [Mode::Vietnamese, Mode::English] {
+                let state = Composition { mode, ..handed(Telex, &vec![plain('a'); count]) }.bytes();
+                for code in (0..0x2100).chain(OUTSIDE) {
+                    self.call(&state, Call::Key(code, 0));
+                    self.call(&state, Call::Key(code, ROOM));
+                    self.call(&state, Call::Literal(code));
+                }
+            }
+        }
+    }
+
+    /// Every byte of some compositions with every other value, and every other length: sound or not, as the oracle says.
+    fn unsound(&mut self) {
+        self.run.begin("composition_ok, key: every byte changed to every value");
+        let odd = odd_cells();
+        let cells: Vec<Cell> = odd.iter().copied().step_by(odd.len() / CELLS).take(CELLS).collect();
+        let changed: Vec<State> = [&[][..], &[plain('a')], &cells[..7], &cells].map(|cells| handed(Telex, cells).bytes()).into();
+        for state in &changed {
+            for place in 0..SIZE {
+                for value in 0..=0xff {
+                    let mut other = *state;
+                    other[place] = value;
+                    self.call(&other, Call::CompositionOk);
+                    self.call(&other, Call::Key('a'.into(), ROOM));
+                }
+            }
+        }
+        self.run.begin("every call: every byte changed to some values, and bytes of every length");
+        for state in &changed {
+            for place in 0..SIZE {
+                for value in [0, 1, 2, 0x21, 0x61, 0x73, 0x80, 0xff] {
+                    let mut other = *state;
+                    other[place] = value;
+                    self.others(&other);
+                    self.call(&other, Call::Literal('a'.into()));
+                }
+            }
+            for length in 0..=MOST_BYTES {
+                let mut bytes = vec![0; MOST_BYTES];
+                bytes[..SIZE].copy_from_slice(state);
+                self.others(&bytes[..length]);
+                self.call(&bytes[..length], Call::Literal('a'.into()));
+                self.call(&bytes[..length], Call::Key('a'.into(), ROOM));
+            }
+        }
+        self.run.begin("every call: two random bytes of random cells changed, and random bytes");
+        for turn in self.run.times(50_000) {
+            let random = self.run.random();
+            let count = random.below(CELLS + 1);
+            let mut bytes = random_composition(random, count).bytes();
+            if turn % 8 == 0 {
+                bytes = [(); SIZE].map(|()| random.next() as u8);
+                bytes[..3].copy_from_slice(&[0, 0, random.below(40) as u8]);
+            } else {
+                (0..2).for_each(|_| bytes[random.below(3 + 8 * count.max(1))] = random.next() as u8);
+            }
+            self.others(&bytes);
+            self.call(&bytes, Call::Key('s'.into(), ROOM));
+        }
+    }
+
+    /// Where several refusals hold at once, the order is 10, 6, 1, then 2, 4 or 5, last 3.
+    fn orders(&mut self) {
+        self.run.begin("every call: several refusals at once");
+        let mut states = Vec::new();
+        for method in [Telex, Vni] {
+            for cells in [vec![], vec![plain('b')], vec![plain('a'); CELLS], vec![plain('b'); CELLS]] {
+                for mode in [Mode::Vietnamese, Mode::English] {
+                    let state = Composition { mode, ..handed(method, &cells) }.bytes();
+                    let mut unsound = state;
+                    unsound[SIZE - 1] = 2;
+                    states.extend([state.to_vec(), unsound.to_vec(), state[..SIZE - 1].to_vec()]);
+                }
+            }
+        }
+        let letters = || codes("absw7\0").into_iter().chain(OUTSIDE);
+        for state in &states {
+            for number in [0, 1, 2, 3, 0xff, 0x100, 0x101, 0x80000000, 0xffffffff] {
+                for call in [Call::New(number), Call::SetMethod(number), Call::SetMode(number)] {
+                    self.call(state, call);
+                }
+            }
+            for room in [0, 1, CELLS - 1, CELLS] {
+                self.call(state, Call::Text(room));
+                self.call(state, Call::RemoveLast(room));
+                letters().for_each(|letter| drop(self.call(state, Call::Key(letter, room))));
+            }
+            for letter in letters() {
+                self.call(state, Call::Literal(letter));
+                for length in [0, 1, WORD_LETTERS, WORD_LETTERS + 1, 200] {
+                    for foreign in [0x61, 0x110000] {
+                        let mut raw = vec![0x61; length];
+                        raw.last_mut().into_iter().for_each(|last| *last = foreign);
+                        self.call(state, Call::Undo(letter, &raw));
+                    }
+                }
+            }
+        }
+    }
+
+    /// Sessions as a host has them, with the text asked for after each call.
+    fn sessions(&mut self) {
+        self.run.begin("every call: random sessions of up to 130 calls, the text after each");
+        for _ in self.run.times(15_000) {
+            let mut state = appended(self.run.random().of(&[Telex, Vni]), "");
+            let mut raw: Vec<u32> = Vec::new();
+            for _ in 0..1 + self.run.random().below(130) {
+                let count = usize::from(state[2]);
+                let (kind, letter) = (self.run.random().below(200), random_key(self.run.random()));
+                let room = if self.run.random().below(8) > 0 { ROOM } else { self.run.random().below(count + 3) };
+                let call = match kind {
+                    0..120 => Call::Key(letter, room),
+                    120..140 => Call::Literal(letter),
+                    140..155 => Call::RemoveLast(room),
+                    155..165 => Call::Undo(raw.last().copied().unwrap_or(letter), &raw),
+                    165..175 => Call::Undo(letter, &raw),
+                    175..180 => Call::Text(room),
+                    180..183 => Call::Reset,
+                    183..185 => Call::SetMethod(self.run.random().below(2) as u32),
+                    185..187 => Call::SetMode(1),
+                    187..197 => Call::SetMode(0),
+                    197..199 => Call::CompositionOk,
+                    _ => Call::New(self.run.random().below(2) as u32),
+                };
+                state = self.step(&state, call);
+                match call {
+                    Call::Key(..) | Call::Literal(_) => raw.push(letter),
+                    Call::RemoveLast(_) => drop(raw.pop()),
+                    Call::Reset => raw.clear(),
+                    _ => {}
+                }
+                self.call(&state, Call::Text(ROOM));
+            }
+        }
+    }
+}
+
+/// Mostly a key that composes, at times any letter, seldom none.
+pub fn random_key(random: &mut Random) -> u32 {
+    match random.below(100) {
+        0 => random.of(&OUTSIDE),
+        1..15 => random.of(alphabet()),
+        15..30 => random.of(&codes("AEOUIYDWSFQG")),
+        30..60 => random.of(&codes(VNI_KEYS)),
+        _ => random.of(&codes(TELEX_KEYS)),
+    }
+}

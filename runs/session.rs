@@ -1,0 +1,374 @@
+//! The composer's fixed list. Each line is a session: calls one after another on one composition, the answer of the last of
+//! them, and the composition after it. tests/fixed/README.md has the form.
+
+use crate::composer::{codes, handed, odd_cells, plain, random_composition, random_key};
+use crate::composition::{Call, Composition, Left, Oracle, CELLS, ROOM, SIZE};
+use crate::engine::bamboo::spy::Cell;
+use crate::engine::bamboo::Mode;
+use crate::engine::spelling;
+use crate::fixed::{bracketed, refused};
+use crate::input_method::InputMethod::{self, Telex, Vni};
+use crate::oracle::TONE_KEYS;
+use crate::report::Random;
+
+/// A line in the making: its calls so far, the keys that are still to be written among them, and what the last one left.
+struct Session {
+    oracle: Oracle,
+    room: usize,
+    bytes: Vec<u8>,
+    calls: Vec<String>,
+    pressed: Vec<u32>,
+    last: Option<Left>,
+}
+
+impl Session {
+    fn new(method: InputMethod) -> Session {
+        Session::on(&Composition::new(method), if method == Telex { "telex" } else { "vni" }.to_string())
+    }
+
+    /// A composition that the line hands in, cell by cell.
+    fn handed(composition: &Composition) -> Session {
+        Session::on(composition, format!("handed {composition:?} ;"))
+    }
+
+    fn on(composition: &Composition, start: String) -> Session {
+        let bytes = composition.bytes().to_vec();
+        Session { oracle: Oracle::new(), room: ROOM, bytes, calls: vec![start], pressed: Vec::new(), last: None }
+    }
+
+    fn call(&mut self, call: Call) {
+        let left = self.oracle.left(&self.bytes, call);
+        self.bytes = left.bytes().to_vec();
+        self.last = Some(left);
+    }
+
+    fn say(&mut self, words: String) {
+        if !self.pressed.is_empty() {
+            self.calls.push(format!("keys {}", bracketed(&self.pressed)));
+            self.pressed.clear();
+        }
+        self.calls.push(words);
+    }
+
+    /// A call for each key.
+    fn keys(mut self, keys: &[u32]) -> Session {
+        keys.iter().for_each(|&key| self.call(Call::Key(key, self.room)));
+        self.pressed.extend(keys);
+        self
+    }
+
+    fn typed(self, keys: &str) -> Session {
+        self.keys(&codes(keys))
+    }
+
+    /// A call by its name and its numbers; the rooms are those of the session.
+    fn named(mut self, call: Call) -> Session {
+        let call = match call {
+            Call::Text(_) => Call::Text(self.room),
+            Call::RemoveLast(_) => Call::RemoveLast(self.room),
+            call => call,
+        };
+        self.call(call);
+        self.say(match call {
+            Call::Text(_) | Call::RemoveLast(_) => call.name().to_string(),
+            call => format!("{call:?}"),
+        });
+        self
+    }
+
+    fn undo(self, trigger: char, raw: &str) -> Session {
+        self.named(Call::Undo(trigger.into(), &codes(raw)))
+    }
+
+    /// The room of every output from here on.
+    fn room(mut self, room: usize) -> Session {
+        self.room = room;
+        self.say(format!("room {room}"));
+        self
+    }
+
+    fn poke(mut self, place: usize, value: u8) -> Session {
+        self.bytes[place] = value;
+        self.say(format!("poke {place} {value}"));
+        self
+    }
+
+    /// Bytes of another length from here on: cut off, or blank ones more.
+    fn length(mut self, length: usize) -> Session {
+        self.bytes.resize(length, 0);
+        self.say(format!("length {length}"));
+        self
+    }
+
+    fn line(mut self) -> String {
+        self.say("=".to_string());
+        let last = self.last.expect("a session has a call");
+        let answer = match (last.refusal(), last.text(), last.behaviour()) {
+            (0, Some(text), _) => bracketed(text),
+            (0, None, 0) => "append".to_string(),
+            (0, None, 1) => "consume".to_string(),
+            (0, None, _) => "done".to_string(),
+            (refusal, ..) => refused(refusal),
+        };
+        let calls = self.calls.join(" ");
+        match Composition::read(last.bytes()) {
+            Some(composition) if last.refusal() == 0 => format!("session {calls} {answer} / {composition:?}"),
+            _ => format!("session {calls} {answer}"),
+        }
+    }
+}
+
+pub fn fixed() -> Vec<String> {
+    let mut lines = examples();
+    lines.extend(rules());
+    lines.extend(tones());
+    lines.extend(words());
+    lines.extend(reaches());
+    lines.extend(calls());
+    lines.extend(undos());
+    lines.extend(odd());
+    lines.extend(unsound());
+    lines.extend(random());
+    lines
+}
+
+fn typed(method: InputMethod, keys: &str) -> String {
+    Session::new(method).typed(keys).line()
+}
+
+/// "Examples to hold it to" of document 01.
+fn examples() -> Vec<String> {
+    let mut lines: Vec<String> = [
+        "dad", "osaf", "uosw", "uows", "AAN", "quar", "gif", "quow", "quaw", "xuaw", "a.s", "abbbbw", "abbbbbw", "uobbbbw",
+        "uobbbbbw", "uaw", "qu",
+    ]
+    .map(|keys| typed(Telex, keys))
+    .to_vec();
+    lines.push(typed(Vni, "pha6n 2"));
+    lines.push(typed(Telex, &"b".repeat(CELLS)));
+    lines.push(typed(Telex, &"b".repeat(CELLS + 1)));
+    lines.push(typed(Telex, &("b".repeat(CELLS - 1) + "aw")));
+    lines.push(Session::new(Telex).typed("uaw").undo('w', "uaw").line());
+    lines.push(Session::new(Telex).typed("dd").undo('d', "dd").line());
+    lines.push(Session::new(Telex).typed("dd").undo('d', "dd").named(Call::Text(ROOM)).line());
+    lines
+}
+
+/// Each mark rule in either case of its two letters, on a toned letter, and after another mark.
+fn rules() -> Vec<String> {
+    let mut lines = Vec::new();
+    for (method, rules, tone) in [(Telex, "aw aa ee oo ow uw dd", "s"), (Vni, "a6 e6 o6 o7 u7 a8 d9", "1")] {
+        for rule in rules.split(' ') {
+            let upper = rule.to_uppercase();
+            let (base, key) = rule.split_at(1);
+            for keys in [
+                rule.to_string(), upper.clone(), [&upper[..1], key].concat(), [base, &upper[1..]].concat(),
+                [base, tone, key].concat(), [rule, key].concat(), [rule, tone].concat(), [&upper, tone].concat(),
+                ["b", base, "n", key].concat(), [base, " ", key].concat(), [base, base, key].concat(),
+            ] {
+                lines.push(typed(method, &keys));
+            }
+        }
+        for start in ["uo", "Uo", "uO", "UO", "quo", "huong", "uou", "uoi", "ua", "Ua", "uA", "qua", "QUa", "uan", "uơ", "ưo", "ưa"] {
+            let key = if method == Telex { "w" } else { "7" };
+            lines.push(typed(method, &[start, key].concat()));
+            lines.push(typed(method, &[start, tone, key].concat()));
+            lines.push(typed(method, &[start, key, tone].concat()));
+        }
+    }
+    lines
+}
+
+/// The tone's place: every vowels of the rows, after no onset, one letter, q u and g i, and in a later syllable.
+fn tones() -> Vec<String> {
+    let mut lines = Vec::new();
+    for vowels in spelling::spy::vowels() {
+        for onset in ["", "t", "qu", "gi", "a.", "q"] {
+            lines.push(typed(Telex, &[onset, vowels, "ns"].concat()));
+        }
+        lines.push(typed(Vni, &["Th", vowels, "5"].concat()));
+    }
+    for keys in ["bs", "s", "a s", "a b", "a bs", "b s", "a,bcs", "GIas", "QUas", "gis", "qus", "aeious", "Aas", "ầs", "Ăs", "âs"] {
+        lines.push(typed(Telex, keys));
+    }
+    for tone in TONE_KEYS.chars() {
+        let method = if tone.is_ascii_digit() { Vni } else { Telex };
+        for keys in ["toan", "oA", "A", "b", "ưƠ"] {
+            lines.push(typed(method, &format!("{keys}{tone}")));
+            lines.push(typed(method, &format!("{keys}{tone}{tone}")));
+        }
+    }
+    lines
+}
+
+fn words() -> Vec<String> {
+    const TELEX: &str = "tieengs Vieetj nguwowif dduwowngf nghieeng khuyru thuowr quaanf giowf giuwongf hoaf khoer tuys muoons \
+        buoonf uoonfg banhs chuwax ddaays nghix nguwowfi ngwowif rau huees bacsf basc HAF NOOIJ DDaf LAJT Ddoongf aas aww oww \
+        ddd dddd uww eee ooo aaa ww w d s";
+    const VNI: &str = "tie6ng1 Vie6t5 ngu7o7i2 d9u7o7ng2 nghie6ng khuyu3 thuo73 qua6n2 gio72 hoa2 muo6n1 buo6n2 chu7a4 \
+        d9a6y1 uo7 a6 a66 a8 a88 d9 d99 9 7 6 1";
+    let telex = TELEX.split_whitespace().map(|keys| typed(Telex, keys));
+    telex.chain(VNI.split_whitespace().map(|keys| typed(Vni, keys))).collect()
+}
+
+/// 0 to 9 letters between a letter and its key.
+fn reaches() -> Vec<String> {
+    let mut lines = Vec::new();
+    for (method, start, key, filler) in [
+        (Telex, "a", "w", "b"), (Telex, "d", "d", "n"), (Telex, "u", "w", "i"), (Telex, "uo", "w", "b"), (Telex, "uo", "w", "."),
+        (Telex, "uo", "w", "i"), (Telex, "uo", "W", " "), (Vni, "o", "6", "b"), (Vni, "d", "9", " "), (Vni, "uo", "7", "b"),
+        (Vni, "ua", "7", "b"),
+    ] {
+        lines.extend((0..=9).map(|between| typed(method, &[start, &filler.repeat(between), key].concat())));
+    }
+    lines
+}
+
+/// Rooms, removal, literals, reset, the settings and English mode.
+fn calls() -> Vec<String> {
+    let start = |keys: &str| Session::new(Telex).typed(keys);
+    let mut lines = Vec::new();
+    for room in 0..=4 {
+        lines.push(start("dd").room(room).typed("a").line());
+        lines.push(start("dda").room(room).typed("s").line());
+        lines.push(start("dda").room(room).named(Call::Text(room)).line());
+        lines.push(start("dda").room(room).named(Call::RemoveLast(room)).line());
+        lines.push(start("a").named(Call::SetMode(1)).room(room).typed("w").line());
+    }
+    for call in [Call::Text(ROOM), Call::RemoveLast(ROOM), Call::Reset, Call::CompositionOk, Call::SetMode(0), Call::SetMode(1)] {
+        lines.push(start("").named(call).line());
+        lines.push(start("Uows").named(call).line());
+        lines.push(start("Uows").named(call).typed("a").line());
+        lines.push(start("Uows").named(call).named(Call::RemoveLast(ROOM)).line());
+        lines.push(start("a").named(Call::SetMode(1)).named(Call::Literal('A'.into())).named(call).line());
+    }
+    for number in [0, 1, 2, 255, 256, u32::MAX] {
+        for call in [Call::New(number), Call::SetMethod(number), Call::SetMode(number)] {
+            lines.push(start("Uows").named(call).line());
+            lines.push(start("Uows").named(call).typed("a6").line());
+            lines.push(start("o").named(Call::SetMode(1)).named(Call::Literal('s'.into())).named(call).line());
+        }
+    }
+    for letter in codes("aAsw Ăđ\0").into_iter().chain([0x80, 0xd800, 0x110000, 0x80000061]) {
+        lines.push(start("a").named(Call::Literal(letter)).line());
+        lines.push(start("a").keys(&[letter]).line());
+        lines.push(Session::handed(&handed(Telex, &[plain('b'); CELLS])).named(Call::Literal(letter)).line());
+        lines.push(Session::handed(&handed(Telex, &[plain('b'); CELLS])).keys(&[letter]).line());
+        lines.push(Session::handed(&handed(Vni, &[plain('a'); CELLS])).keys(&[letter]).room(0).keys(&[letter]).line());
+    }
+    lines
+}
+
+fn undos() -> Vec<String> {
+    let start = |keys: &str| Session::new(Telex).typed(keys);
+    let mut lines = Vec::new();
+    for rule in ["aw", "aa", "ee", "oo", "ow", "uw", "dd"] {
+        let (trigger, upper) = (rule.chars().nth(1).expect("a rule's key"), rule.to_uppercase());
+        for (keys, raw) in [
+            (rule, rule), (&upper, &upper), (rule, ""), (rule, &rule[..1]), (rule, &[rule, "b"].concat()), (rule, &[rule, "i"].concat()),
+            (&[rule, "s"].concat(), rule), (&[rule, "n"].concat(), &[rule, "n"].concat()), (&[rule, rule].concat(), rule),
+            (rule, &["u", rule].concat()), (rule, &[rule, "a", rule].concat()), ("b", rule), (rule, &"b".repeat(65)),
+            (rule, &("b".repeat(62) + rule)),
+        ] {
+            lines.push(start(keys).undo(trigger, raw).line());
+        }
+        lines.push(start(rule).undo(trigger.to_ascii_uppercase(), rule).line());
+        lines.push(start(rule).undo('b', rule).line());
+        lines.push(start(rule).undo('\0', rule).line());
+        lines.push(start(rule).undo('\u{80}', rule).line());
+        lines.push(start(rule).named(Call::Undo(trigger.into(), &[0x61, 0x110000])).line());
+        lines.push(start(rule).named(Call::SetMode(0)).undo(trigger, rule).undo(trigger, rule).line());
+        lines.push(Session::new(Vni).named(Call::Literal('a'.into())).undo(trigger, rule).line());
+    }
+    for tone in "sfrxj".chars() {
+        let keys = format!("toa{tone}");
+        for raw in [&keys[..], "", "b", &keys.to_uppercase(), "toa"] {
+            lines.push(start(&keys).undo(tone, raw).line());
+            lines.push(start(&keys).undo(tone.to_ascii_uppercase(), raw).line());
+        }
+        lines.push(start(&format!("a{tone} o{tone}")).undo(tone, &keys).line());
+    }
+    for tone in [None, Some('1'), Some('s')] {
+        let cells = [Cell { tone, ..plain('a') }, Cell { tone, ..plain('b') }];
+        for (trigger, raw) in [('1', "1"), ('s', "s"), ('\0', "\0"), ('\0', "")] {
+            lines.push(Session::handed(&handed(Telex, &cells)).undo(trigger, raw).line());
+            lines.push(Session::handed(&Composition { mode: Mode::English, ..handed(Telex, &cells) }).undo(trigger, raw).line());
+            lines.push(Session::handed(&handed(Vni, &cells)).undo(trigger, raw).line());
+        }
+    }
+    lines
+}
+
+/// Sound cells that no key makes.
+fn odd() -> Vec<String> {
+    let mut lines = Vec::new();
+    for cell in odd_cells() {
+        let session = |method| Session::handed(&handed(method, &[cell]));
+        lines.push(session(Telex).named(Call::Text(ROOM)).line());
+        lines.push(session(Telex).typed("w").line());
+        lines.push(session(Vni).typed("b5").line());
+    }
+    lines
+}
+
+/// A byte of each kind with a value that spells nothing, and other lengths.
+fn unsound() -> Vec<String> {
+    let cells = [plain('a'), Cell { base: 'ă', mark: Some('ă'), tone: Some('s'), upper: true }, plain('B')];
+    let session = || Session::handed(&handed(Telex, &cells));
+    let mut lines = Vec::new();
+    for (place, values) in [
+        (0, &[1, 2, 255][..]), (1, &[1, 2, 255]), (2, &[2, 4, 32, 33, 255]), (3, &[0x62, 0x80]), (4, &[1, 2]), (5, &[1]), (6, &[1, 255]),
+        (7, &[0x61, 1]), (8, &[1]), (9, &[1, 0x31, 0x36, 0x61, 0x73, 0x80]), (10, &[1, 2, 255]), (11, &[2, 4, 0xe2]), (12, &[0, 2]),
+        (13, &[1]), (15, &[0, 2, 0xe2]), (16, &[0, 2]), (17, &[0, 0x6a, 0x7a]), (18, &[0, 2]), (27, &[1]), (31, &[1]), (33, &[0x73]),
+        (34, &[1]), (SIZE - 8, &[0x61]), (SIZE - 2, &[0x73]), (SIZE - 1, &[1]),
+    ] {
+        for &value in values {
+            for call in [Call::CompositionOk, Call::Text(ROOM), Call::Reset] {
+                lines.push(session().poke(place, value).named(call).line());
+            }
+            lines.push(session().poke(place, value).typed("a").line());
+        }
+    }
+    for length in [0, 1, 2, 3, 11, SIZE - 1, SIZE + 1, SIZE + 8] {
+        for call in [
+            Call::CompositionOk, Call::Text(ROOM), Call::RemoveLast(ROOM), Call::Reset, Call::New(0), Call::SetMethod(0),
+            Call::SetMode(0), Call::Literal('a'.into()), Call::Key('a'.into(), ROOM),
+        ] {
+            let shorter = session().length(length);
+            lines.push(match call {
+                Call::Key(key, _) => shorter.keys(&[key]).line(),
+                _ => shorter.named(call).line(),
+            });
+        }
+    }
+    lines.push(session().length(SIZE - 1).undo('\u{80}', &"b".repeat(65)).line());
+    lines.push(session().poke(0, 9).named(Call::New(1)).line());
+    lines.push(session().undo('\u{80}', &"b".repeat(65)).line());
+    lines
+}
+
+/// Sessions at random, from a seed of their own.
+fn random() -> Vec<String> {
+    let mut random = Random(3);
+    (0..150)
+        .map(|turn| {
+            let mut session = if turn % 3 == 0 {
+                let count = random.below(12);
+                Session::handed(&random_composition(&mut random, count))
+            } else {
+                Session::new(random.of(&[Telex, Vni]))
+            };
+            for _ in 0..1 + random.below(24) {
+                let key = random_key(&mut random);
+                session = match random.below(20) {
+                    0..16 => session.keys(&[key]),
+                    16 => session.named(Call::Literal(key)),
+                    17 => session.named(Call::RemoveLast(ROOM)),
+                    18 => session.named(Call::SetMode(random.below(8) as u32 / 7)),
+                    _ => session.undo('w', "uow"),
+                };
+            }
+            session.named(Call::Text(ROOM)).line()
+        })
+        .collect()
+}

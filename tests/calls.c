@@ -1,0 +1,852 @@
+/* Every call of the header on good and bad input, with each refusal that it has, in their order.
+ *
+ *   calls      prints what does not hold, then `N facts about M calls, F do not hold`
+ *
+ * All that a call is lent is guarded: after a refusal nothing has changed, after an answer nothing but the answer. A
+ * ladder is an input with everything wrong that can be; the call says the first refusal, that fault is mended, and so on
+ * down to the answer. */
+#include "lent.h"
+#include "pasdrongel.h"
+
+#define GUARD 0xa5
+#define MOST 512
+#define STATE PASDRONGEL_COMPOSITION_BYTES
+#define FOREIGN 0xc4u /* a with diaeresis, a capital */
+
+static unsigned long facts, calls, failures;
+
+#define FACT(fact) told((fact) != 0, #fact, __LINE__)
+
+static void told(int holds, const char *fact, int line)
+{
+    facts++;
+    if (!holds) {
+        failures++;
+        printf("tests/calls.c:%d: not so: %s\n", line, fact);
+    }
+}
+
+/* ---- what is lent, and what a call left there */
+
+static struct lent the_state, the_input, the_output, the_first, the_second;
+static struct lent *const everything[] = {&the_state, &the_input, &the_output, &the_first, &the_second};
+#define EVERYTHING (sizeof everything / sizeof *everything)
+
+static uint8_t state[MOST];   /* the composition that the composition calls are given, and its size */
+static size_t state_size;
+static uint32_t letters[MOST]; /* the answer of the last call that was done: letters or bytes, their count, a number */
+static uint8_t bytes[MOST];
+static size_t count, place;
+static uint32_t number;
+
+static void *lent(struct lent *where, const void *content, size_t size)
+{
+    return lend(where, content, size, HIGH, GUARD);
+}
+
+static void begin(void)
+{
+    size_t i;
+    for (i = 0; i < EVERYTHING; i++)
+        lent(everything[i], NULL, 0);
+    calls++;
+}
+
+/* Lends the composition, room for an answer, or a number. */
+static uint8_t *given(void)
+{
+    return lent(&the_state, state, state_size);
+}
+
+static uint32_t *room_for(size_t room)
+{
+    return lent(&the_output, NULL, room * sizeof(uint32_t));
+}
+
+static size_t *counted(void)
+{
+    return lent(&the_first, NULL, sizeof(size_t));
+}
+
+static uint32_t *told_yes(void)
+{
+    return lent(&the_first, NULL, sizeof(uint32_t));
+}
+
+/* What a call that is done may have written. */
+enum writes { NOTHING = 0, THE_STATE = 1, THE_LETTERS = 2, THE_BYTES = 4, THE_NUMBER = 8, A_COUNT = 16, TWO_PLACES = 32 };
+
+static uint32_t end_of_call(uint32_t refusal, int writes)
+{
+    size_t i, unit = writes & THE_LETTERS ? sizeof *letters : writes & THE_BYTES ? sizeof *bytes : 0;
+    if (refusal != PASDRONGEL_DONE) {
+        for (i = 0; i < EVERYTHING; i++)
+            FACT(kept(everything[i], 0));
+        return refusal;
+    }
+    if (unit != 0 || writes & (A_COUNT | TWO_PLACES))
+        memcpy(&count, the_first.at, sizeof count);
+    if (unit != 0) {
+        FACT(count * unit <= the_output.size);
+        memcpy(unit == sizeof *letters ? (void *)letters : (void *)bytes, the_output.at, count * unit);
+    }
+    if (writes & THE_NUMBER)
+        memcpy(&number, the_first.at, sizeof number);
+    if (writes & TWO_PLACES)
+        memcpy(&place, the_second.at, sizeof place);
+    memcpy(state, the_state.at, the_state.size);
+    FACT(kept(&the_state, writes & THE_STATE ? the_state.size : 0));
+    FACT(kept(&the_input, 0));
+    FACT(kept(&the_output, unit * count));
+    FACT(kept(&the_first, writes & ~THE_STATE ? the_first.size : 0));
+    FACT(kept(&the_second, writes & TWO_PLACES ? the_second.size : 0));
+    return refusal;
+}
+
+/* ---- text in this file is UTF-8, and read by a reader of its own */
+
+static size_t spelt(const char *text, uint32_t *code_points)
+{
+    size_t n = 0;
+    while (*text != '\0') {
+        unsigned char lead = (unsigned char)*text++;
+        uint32_t code_point = lead < 0x80 ? lead : lead < 0xe0 ? lead & 0x1fu : lead < 0xf0 ? lead & 0xfu : lead & 7u;
+        while (((unsigned char)*text & 0xc0) == 0x80)
+            code_point = code_point << 6 | ((unsigned char)*text++ & 0x3fu);
+        code_points[n++] = code_point;
+    }
+    return n;
+}
+
+static uint32_t letter_of(const char *text)
+{
+    uint32_t code_points[MOST];
+    return spelt(text, code_points) == 1 ? code_points[0] : FOREIGN;
+}
+
+/* Is this the answer of the last call? */
+static int wrote(const char *text)
+{
+    uint32_t code_points[MOST];
+    size_t n = spelt(text, code_points);
+    return count == n && memcmp(letters, code_points, n * sizeof *letters) == 0;
+}
+
+/* ---- the calls, each with guarded places */
+
+typedef uint32_t letter_call(uint32_t letter, uint32_t *answer);
+
+static uint32_t of_letter(letter_call *call, uint32_t letter)
+{
+    begin();
+    return end_of_call(call(letter, told_yes()), THE_NUMBER);
+}
+
+static uint32_t check_letter(uint32_t letter)
+{
+    begin();
+    return end_of_call(pasdrongel_check_letter(letter), NOTHING);
+}
+
+static uint32_t tone_on(uint32_t letter, uint32_t tone)
+{
+    begin();
+    return end_of_call(pasdrongel_tone_on(letter, tone, told_yes()), THE_NUMBER);
+}
+
+static uint32_t read_utf8(const void *from, size_t length, size_t room)
+{
+    begin();
+    return end_of_call(pasdrongel_read_utf8(lent(&the_input, from, length), length, room_for(room), room, counted()), THE_LETTERS);
+}
+
+static uint32_t write_utf8(const uint32_t *from, size_t length, size_t room)
+{
+    begin();
+    return end_of_call(pasdrongel_write_utf8(lent(&the_input, from, length * sizeof *from), length,
+                                             lent(&the_output, NULL, room), room, counted()), THE_BYTES);
+}
+
+static uint32_t start(uint32_t method)
+{
+    begin();
+    return end_of_call(pasdrongel_new(given(), state_size, method), THE_STATE);
+}
+
+static uint32_t composition_ok(void)
+{
+    begin();
+    return end_of_call(pasdrongel_composition_ok(given(), state_size), NOTHING);
+}
+
+static uint32_t key(uint32_t letter, size_t room)
+{
+    begin();
+    return end_of_call(pasdrongel_key(given(), state_size, letter, room_for(room), room, counted()), THE_STATE | THE_LETTERS);
+}
+
+static uint32_t literal(uint32_t letter)
+{
+    begin();
+    return end_of_call(pasdrongel_literal(given(), state_size, letter), THE_STATE);
+}
+
+static uint32_t text(size_t room)
+{
+    begin();
+    return end_of_call(pasdrongel_text(given(), state_size, room_for(room), room, counted()), THE_LETTERS);
+}
+
+static uint32_t remove_last(size_t room)
+{
+    begin();
+    return end_of_call(pasdrongel_remove_last(given(), state_size, room_for(room), room, counted()), THE_STATE | THE_LETTERS);
+}
+
+static uint32_t reset(void)
+{
+    begin();
+    return end_of_call(pasdrongel_reset(given(), state_size), THE_STATE);
+}
+
+static uint32_t set_method(uint32_t method)
+{
+    begin();
+    return end_of_call(pasdrongel_set_method(given(), state_size, method), THE_STATE);
+}
+
+static uint32_t set_mode(uint32_t mode)
+{
+    begin();
+    return end_of_call(pasdrongel_set_mode(given(), state_size, mode), THE_STATE);
+}
+
+static uint32_t undo_raw(uint32_t trigger, const uint32_t *raw, size_t length)
+{
+    begin();
+    return end_of_call(pasdrongel_undo(given(), state_size, trigger, lent(&the_input, raw, length * sizeof *raw), length,
+                                       told_yes()), THE_STATE | THE_NUMBER);
+}
+
+static uint32_t undo(uint32_t trigger, const char *raw)
+{
+    uint32_t code_points[MOST];
+    size_t length = spelt(raw, code_points);
+    return undo_raw(trigger, code_points, length);
+}
+
+typedef uint32_t key_call(uint32_t method, uint32_t key, uint32_t *answer);
+
+static uint32_t of_key(key_call *call, uint32_t method, uint32_t letter)
+{
+    begin();
+    return end_of_call(call(method, letter, told_yes()), THE_NUMBER);
+}
+
+static uint32_t mark_for(uint32_t method, uint32_t base, uint32_t letter)
+{
+    begin();
+    return end_of_call(pasdrongel_mark_for(method, base, letter, told_yes()), THE_NUMBER);
+}
+
+static uint32_t cut_letters(const uint32_t *word, size_t length)
+{
+    begin();
+    return end_of_call(pasdrongel_cut(lent(&the_input, word, length * sizeof *word), length, counted(),
+                                      lent(&the_second, NULL, sizeof(size_t))), TWO_PLACES);
+}
+
+static uint32_t judge_letters(const uint32_t *word, size_t length)
+{
+    begin();
+    return end_of_call(pasdrongel_verdict(lent(&the_input, word, length * sizeof *word), length, told_yes()), THE_NUMBER);
+}
+
+static uint32_t total(void)
+{
+    begin();
+    return end_of_call(pasdrongel_total(counted()), A_COUNT);
+}
+
+static uint32_t word_of(size_t wanted, size_t room)
+{
+    begin();
+    return end_of_call(pasdrongel_word(wanted, room_for(room), room, counted()), THE_LETTERS);
+}
+
+static uint32_t next_letters(const uint32_t *after, size_t length, size_t room)
+{
+    begin();
+    return end_of_call(pasdrongel_next_word(lent(&the_input, after, length * sizeof *after), length, room_for(room), room,
+                                            counted()), THE_LETTERS);
+}
+
+/* ---- letters */
+
+static void letters_facts(void)
+{
+    static letter_call *const of_one[] = {pasdrongel_lower, pasdrongel_upper, pasdrongel_is_capital,
+        pasdrongel_is_white_space, pasdrongel_tone_off, pasdrongel_is_composer_vowel, pasdrongel_is_speller_vowel};
+    static const uint32_t foreign[] = {0x80, FOREIGN, 0xd7, 0x10f, 0x1e9f, 0x1efa, 0x301, 0xd800, 0xfffd, 0x10ffff,
+        0x110000, 0x80000061, 0xffffffff};
+    static const uint32_t letter[] = {0, 0x7f, 0xc0, 0xfd, 0x102, 0x110, 0x1b0, 0x1ea0, 0x1ef9};
+    size_t i, j;
+    for (i = 0; i < sizeof letter / sizeof *letter; i++)
+        FACT(check_letter(letter[i]) == PASDRONGEL_DONE);
+    for (i = 0; i < sizeof foreign / sizeof *foreign; i++) {
+        FACT(check_letter(foreign[i]) == PASDRONGEL_REFUSED_FOREIGN);
+        for (j = 0; j < sizeof of_one / sizeof *of_one; j++)
+            FACT(of_letter(of_one[j], foreign[i]) == PASDRONGEL_REFUSED_FOREIGN);
+        FACT(tone_on(foreign[i], foreign[i]) == PASDRONGEL_REFUSED_FOREIGN);
+        FACT(tone_on(foreign[i], 's') == PASDRONGEL_REFUSED_FOREIGN);
+        FACT(tone_on('a', foreign[i]) == PASDRONGEL_REFUSED_FOREIGN);
+    }
+#define GIVES(call, letter, answer) FACT(of_letter(call, letter) == PASDRONGEL_DONE && number == (answer))
+    GIVES(pasdrongel_lower, 'A', 'a');
+    GIVES(pasdrongel_lower, letter_of("Ấ"), letter_of("ấ"));
+    GIVES(pasdrongel_lower, letter_of("Đ"), letter_of("đ"));
+    GIVES(pasdrongel_lower, '1', '1');
+    GIVES(pasdrongel_upper, letter_of("ỹ"), letter_of("Ỹ"));
+    GIVES(pasdrongel_upper, letter_of("à"), letter_of("À"));
+    GIVES(pasdrongel_upper, 'Z', 'Z');
+    GIVES(pasdrongel_is_capital, letter_of("Ư"), 1);
+    GIVES(pasdrongel_is_capital, letter_of("ư"), 0);
+    GIVES(pasdrongel_is_white_space, 0x20, 1);
+    GIVES(pasdrongel_is_white_space, 0x0d, 1);
+    GIVES(pasdrongel_is_white_space, 0x1c, 0);
+    GIVES(pasdrongel_tone_off, letter_of("ầ"), letter_of("â"));
+    GIVES(pasdrongel_tone_off, letter_of("Ầ"), letter_of("Ầ"));
+    GIVES(pasdrongel_is_composer_vowel, 'Y', 1);
+    GIVES(pasdrongel_is_composer_vowel, letter_of("ă"), 1);
+    GIVES(pasdrongel_is_composer_vowel, letter_of("Ă"), 0);
+    GIVES(pasdrongel_is_composer_vowel, letter_of("ầ"), 0);
+    GIVES(pasdrongel_is_speller_vowel, letter_of("ầ"), 1);
+    GIVES(pasdrongel_is_speller_vowel, 'A', 0);
+#undef GIVES
+    FACT(tone_on('a', 's') == PASDRONGEL_DONE && number == letter_of("á"));
+    FACT(tone_on('A', '5') == PASDRONGEL_DONE && number == letter_of("ạ"));
+    FACT(tone_on(letter_of("ư"), 'x') == PASDRONGEL_DONE && number == letter_of("ữ"));
+    FACT(tone_on(letter_of("Ư"), 'x') == PASDRONGEL_DONE && number == letter_of("Ư"));
+    FACT(tone_on('b', 's') == PASDRONGEL_DONE && number == 'b');
+    FACT(tone_on('a', 'z') == PASDRONGEL_DONE && number == 'a');
+    FACT(tone_on('a', 0) == PASDRONGEL_DONE && number == 'a');
+}
+
+/* ---- UTF-8 */
+
+static void utf8_facts(void)
+{
+    uint8_t line[PASDRONGEL_LINE_BYTES + 1];
+    uint32_t word[PASDRONGEL_WORD_LETTERS + 1];
+    size_t i;
+    /* the ladder of the reader: 6, then 8 or 1 by the first faulty character, 3 */
+    memset(line, 'a', sizeof line);
+    line[100] = 0xff;
+    FACT(read_utf8(line, PASDRONGEL_LINE_BYTES + 1, 0) == PASDRONGEL_REFUSED_LONG);
+    FACT(read_utf8(line, PASDRONGEL_LINE_BYTES, 0) == PASDRONGEL_REFUSED_MALFORMED);
+    line[98] = 0xc3, line[99] = 0x84;
+    FACT(read_utf8(line, PASDRONGEL_LINE_BYTES, 0) == PASDRONGEL_REFUSED_FOREIGN);
+    line[97] = 0xc3;
+    FACT(read_utf8(line, PASDRONGEL_LINE_BYTES, 0) == PASDRONGEL_REFUSED_MALFORMED);
+    memset(line, 'a', sizeof line);
+    FACT(read_utf8(line, PASDRONGEL_LINE_BYTES, PASDRONGEL_READ_ROOM - 1) == PASDRONGEL_REFUSED_SHORT);
+    FACT(read_utf8(line, PASDRONGEL_LINE_BYTES, PASDRONGEL_READ_ROOM) == PASDRONGEL_DONE && count == PASDRONGEL_LINE_BYTES);
+    FACT(read_utf8("", 0, 0) == PASDRONGEL_DONE && count == 0);
+    FACT(read_utf8("pha\xcc\x82n", 6, 8) == PASDRONGEL_REFUSED_FOREIGN);
+    FACT(read_utf8("ph\xc3\xa2n", 5, 3) == PASDRONGEL_REFUSED_SHORT);
+    FACT(read_utf8("ph\xc3\xa2n", 5, 4) == PASDRONGEL_DONE && wrote("phân"));
+    FACT(read_utf8("\xe1\xbb\xb9", 3, 9) == PASDRONGEL_DONE && wrote("ỹ"));
+    FACT(read_utf8("\xe1\xbb", 2, 9) == PASDRONGEL_REFUSED_MALFORMED);
+    FACT(read_utf8("\xc1\xa1", 2, 9) == PASDRONGEL_REFUSED_MALFORMED);
+    FACT(read_utf8("\xed\xa0\x80", 3, 9) == PASDRONGEL_REFUSED_MALFORMED);
+    FACT(read_utf8("\xf0\x9f\x8c\xbf", 4, 9) == PASDRONGEL_REFUSED_FOREIGN);
+    FACT(read_utf8("\xf4\x90\x80\x80", 4, 9) == PASDRONGEL_REFUSED_MALFORMED);
+    FACT(read_utf8("\0", 1, 1) == PASDRONGEL_DONE && count == 1 && letters[0] == 0);
+
+    /* the ladder of the writer: 6, 1, 3 */
+    for (i = 0; i < sizeof word / sizeof *word; i++)
+        word[i] = letter_of("ỹ");
+    word[63] = FOREIGN;
+    FACT(write_utf8(word, PASDRONGEL_WORD_LETTERS + 1, 0) == PASDRONGEL_REFUSED_LONG);
+    FACT(write_utf8(word, PASDRONGEL_WORD_LETTERS, 0) == PASDRONGEL_REFUSED_FOREIGN);
+    word[63] = word[0];
+    FACT(write_utf8(word, PASDRONGEL_WORD_LETTERS, PASDRONGEL_WRITE_ROOM - 1) == PASDRONGEL_REFUSED_SHORT);
+    FACT(write_utf8(word, PASDRONGEL_WORD_LETTERS, PASDRONGEL_WRITE_ROOM) == PASDRONGEL_DONE && count == PASDRONGEL_WRITE_ROOM);
+    FACT(write_utf8(word, 0, 0) == PASDRONGEL_DONE && count == 0);
+    FACT(write_utf8(word, spelt("đầy", word), 9) == PASDRONGEL_DONE && count == 6 && memcmp(bytes, "đầy", 6) == 0);
+}
+
+/* ---- the composition */
+
+static void fresh(uint32_t method)
+{
+    memset(state, GUARD, sizeof state);
+    state_size = STATE;
+    FACT(start(method) == PASDRONGEL_DONE);
+}
+
+/* Types keys, each with room for the whole text; the composition stays sound. */
+static void type(const char *keys)
+{
+    uint32_t code_points[MOST];
+    size_t i, n = spelt(keys, code_points);
+    for (i = 0; i < n; i++) {
+        FACT(key(code_points[i], PASDRONGEL_TEXT_ROOM) == PASDRONGEL_DONE);
+        FACT(composition_ok() == PASDRONGEL_DONE);
+    }
+}
+
+/* Is the text of the composition this one, by the last answer and by the call for it? */
+static int shows(const char *expected)
+{
+    return text(PASDRONGEL_TEXT_ROOM) == PASDRONGEL_DONE && wrote(expected);
+}
+
+static int types(uint32_t method, const char *keys, const char *expected)
+{
+    fresh(method);
+    type(keys);
+    return wrote(expected) && shows(expected);
+}
+
+/* The cell i of the composition, as docs/BYTES.md has it. */
+static uint8_t *cell(size_t i)
+{
+    return state + 3 + 8 * i;
+}
+
+/* Every call that is given a composition refuses this one by 10, whatever else is wrong, and leaves it. */
+static void unsound(void)
+{
+    uint32_t raw[PASDRONGEL_WORD_LETTERS + 1] = {FOREIGN};
+    FACT(composition_ok() == PASDRONGEL_REFUSED_UNSOUND);
+    FACT(key(FOREIGN, 0) == PASDRONGEL_REFUSED_UNSOUND);
+    FACT(key('a', PASDRONGEL_TEXT_ROOM) == PASDRONGEL_REFUSED_UNSOUND);
+    FACT(literal(FOREIGN) == PASDRONGEL_REFUSED_UNSOUND);
+    FACT(literal('a') == PASDRONGEL_REFUSED_UNSOUND);
+    FACT(text(0) == PASDRONGEL_REFUSED_UNSOUND);
+    FACT(text(PASDRONGEL_TEXT_ROOM) == PASDRONGEL_REFUSED_UNSOUND);
+    FACT(remove_last(0) == PASDRONGEL_REFUSED_UNSOUND);
+    FACT(remove_last(PASDRONGEL_TEXT_ROOM) == PASDRONGEL_REFUSED_UNSOUND);
+    FACT(reset() == PASDRONGEL_REFUSED_UNSOUND);
+    FACT(set_method(PASDRONGEL_VNI) == PASDRONGEL_REFUSED_UNSOUND);
+    FACT(set_mode(PASDRONGEL_ENGLISH) == PASDRONGEL_REFUSED_UNSOUND);
+    FACT(undo_raw(FOREIGN, raw, PASDRONGEL_WORD_LETTERS + 1) == PASDRONGEL_REFUSED_UNSOUND);
+    FACT(undo('s', "as") == PASDRONGEL_REFUSED_UNSOUND);
+}
+
+/* Puts one byte of the composition to a value that makes it unsound, and back. */
+static void unsound_at(size_t at, uint8_t value)
+{
+    uint8_t old = state[at];
+    FACT(composition_ok() == PASDRONGEL_DONE);
+    state[at] = value;
+    unsound();
+    state[at] = old;
+}
+
+static void soundness_facts(void)
+{
+    static const char tones[] = "fsrxj12345";
+    static const char *const marks[] = {"ă", "â", "ê", "ô", "ơ", "ư", "đ"};
+    size_t i, j;
+    /* another length, with bytes that would do */
+    fresh(PASDRONGEL_TELEX);
+    memset(state + STATE, 0, sizeof state - STATE);
+    for (state_size = 0; state_size <= 2 * STATE; state_size += state_size == STATE - 2 ? 1 : STATE / 7)
+        if (state_size != STATE)
+            unsound();
+    for (state_size = STATE - 1; state_size <= STATE + 1; state_size += 2)
+        unsound();
+    state_size = STATE;
+    /* bytes that spell no method, mode, count or cell: a cell with mark, tone and flag, and one without */
+    fresh(PASDRONGEL_TELEX);
+    type("DDaf");
+    FACT(shows("đà") && state[2] == 2 && cell(0)[7] == 1 && cell(1)[6] == 'f');
+    unsound_at(0, 2);
+    unsound_at(0, 0xff);
+    unsound_at(1, 2);
+    unsound_at(2, 33);
+    unsound_at(2, 0xff);
+    unsound_at(2, 1);                         /* the second cell stands past the count */
+    for (i = 0; i < 6; i++)
+        unsound_at(3 + i, (uint8_t)(cell(0)[i] ^ 0x10)); /* a mark that is not its base, a base that is no letter */
+    unsound_at(3 + 6, 'z');
+    unsound_at(3 + 6, 'F');
+    unsound_at(3 + 6, '6');
+    unsound_at(3 + 7, 2);
+    unsound_at(3 + 7, 0xff);
+    unsound_at(11, 0x80);
+    unsound_at(11 + 2, 1);
+    unsound_at(11 + 3, 0x80);
+    unsound_at(11 + 4, 'a');                  /* a is no mark, even as its own base */
+    for (i = 19; i < STATE; i++) {            /* every cell past the count is blank, byte by byte */
+        uint8_t old = state[i];
+        state[i] = 1;
+        FACT(composition_ok() == PASDRONGEL_REFUSED_UNSOUND);
+        FACT(reset() == PASDRONGEL_REFUSED_UNSOUND);
+        state[i] = old;
+    }
+    /* sound cells that no key makes: a capital with no flag, a flag on U+0000, every tone on a consonant, every mark's
+     * letter with no mark and with it */
+    for (i = 0; tones[i] != '\0'; i++) {
+        fresh(PASDRONGEL_VNI);
+        state[2] = 3;
+        cell(0)[0] = 'B', cell(1)[7] = 1, cell(2)[0] = 'c', cell(2)[6] = (uint8_t)tones[i];
+        FACT(composition_ok() == PASDRONGEL_DONE);
+        FACT(text(3) == PASDRONGEL_DONE && count == 3 && letters[0] == 'B' && letters[1] == 0 && letters[2] == 'c');
+    }
+    for (i = 0; i < 7; i++)
+        for (j = 0; j < 2; j++) {
+            uint32_t mark = letter_of(marks[i]);
+            fresh(PASDRONGEL_TELEX);
+            state[2] = 1;
+            cell(0)[0] = (uint8_t)mark, cell(0)[1] = (uint8_t)(mark >> 8);
+            cell(0)[4] = (uint8_t)(j * mark), cell(0)[5] = (uint8_t)(j * mark >> 8);
+            FACT(composition_ok() == PASDRONGEL_DONE && shows(marks[i]));
+        }
+    /* new takes bytes of any content, but 259 of them and a method */
+    memset(state, GUARD, sizeof state);
+    for (state_size = STATE - 1; state_size <= STATE + 1; state_size += 2)
+        FACT(start(PASDRONGEL_TELEX) == PASDRONGEL_REFUSED_UNSOUND);
+    state_size = 0;
+    FACT(start(PASDRONGEL_TELEX) == PASDRONGEL_REFUSED_UNSOUND);
+    state_size = STATE;
+    FACT(start(2) == PASDRONGEL_REFUSED_UNSOUND);
+    FACT(start(0x100) == PASDRONGEL_REFUSED_UNSOUND);
+    FACT(start(0xffffffff) == PASDRONGEL_REFUSED_UNSOUND);
+    FACT(start(PASDRONGEL_VNI) == PASDRONGEL_DONE && state[0] == 1 && shows(""));
+    for (i = 1; i < STATE; i++)
+        FACT(state[i] == 0);
+}
+
+/* The paper's examples for the composer. */
+static void example_facts(void)
+{
+    static const struct {
+        uint32_t method;
+        const char *keys, *text;
+    } examples[] = {
+        {PASDRONGEL_TELEX, "dad", "đa"}, {PASDRONGEL_TELEX, "osaf", "óà"}, {PASDRONGEL_TELEX, "uosw", "ươ"},
+        {PASDRONGEL_TELEX, "uows", "ướ"}, {PASDRONGEL_TELEX, "AAN", "âN"}, {PASDRONGEL_TELEX, "quar", "quả"},
+        {PASDRONGEL_TELEX, "gif", "gì"}, {PASDRONGEL_TELEX, "quow", "qươ"}, {PASDRONGEL_TELEX, "quaw", "quă"},
+        {PASDRONGEL_TELEX, "xuaw", "xưa"}, {PASDRONGEL_TELEX, "a.s", "a."}, {PASDRONGEL_TELEX, "abbbbw", "ăbbbb"},
+        {PASDRONGEL_TELEX, "abbbbbw", "abbbbbw"}, {PASDRONGEL_TELEX, "uobbbbw", "ươbbbb"},
+        {PASDRONGEL_TELEX, "uobbbbbw", "uobbbbbw"}, {PASDRONGEL_TELEX, "As", "á"}, {PASDRONGEL_TELEX, "Âs", "Âs"},
+        {PASDRONGEL_TELEX, "uOw", "ươ"}, {PASDRONGEL_TELEX, "nguyeenx", "nguyễn"}, {PASDRONGEL_TELEX, "s", "s"},
+        {PASDRONGEL_TELEX, "pha6n2", "pha6n2"}, {PASDRONGEL_VNI, "pha6n2", "phần"}, {PASDRONGEL_VNI, "d9u7o7ng2", "đường"},
+        {PASDRONGEL_VNI, "duo7c5", "dược"}, {PASDRONGEL_VNI, "a8", "ă"}, {PASDRONGEL_VNI, "dd", "dd"},
+        {PASDRONGEL_VNI, "1", "1"},
+    };
+    size_t i;
+    for (i = 0; i < sizeof examples / sizeof *examples; i++) {
+        FACT(types(examples[i].method, examples[i].keys, examples[i].text));
+        if (!wrote(examples[i].text))
+            printf("    that is: %s gives %s\n", examples[i].keys, examples[i].text);
+    }
+    /* the tone that stands on a separator is in the composition, and no text shows it */
+    FACT(types(PASDRONGEL_TELEX, "a.s", "a.") && cell(1)[6] == 's');
+    /* the pale house: the tank's number is taken for a tone key, and set on the space */
+    FACT(types(PASDRONGEL_VNI, "pha6n 2", "phân ") && cell(4)[6] == '2');
+    /* and how a host avoids it: a reset at each separator */
+    FACT(types(PASDRONGEL_VNI, "pha6n", "phân"));
+    FACT(reset() == PASDRONGEL_DONE);
+    type("2");
+    FACT(wrote("2"));
+}
+
+static void key_facts(void)
+{
+    uint32_t i;
+    /* the ladder of the key: 10, 1, 2, 3 */
+    fresh(PASDRONGEL_TELEX);
+    for (i = 0; i < 32; i++)
+        FACT(key('b', PASDRONGEL_TEXT_ROOM) == PASDRONGEL_DONE && count == i + 1);
+    state[0] = 2;
+    FACT(key(FOREIGN, 0) == PASDRONGEL_REFUSED_UNSOUND);
+    state[0] = PASDRONGEL_TELEX;
+    FACT(key(FOREIGN, 0) == PASDRONGEL_REFUSED_FOREIGN);
+    FACT(key('b', 0) == PASDRONGEL_REFUSED_FULL);
+    FACT(key('b', PASDRONGEL_TEXT_ROOM) == PASDRONGEL_REFUSED_FULL);
+    FACT(remove_last(PASDRONGEL_TEXT_ROOM) == PASDRONGEL_DONE && count == 31);
+    FACT(key('d', 31) == PASDRONGEL_REFUSED_SHORT);
+    FACT(key('d', 32) == PASDRONGEL_DONE && count == 32);
+    /* a mark key on 32 cells works, and so does a tone key; each still needs the room */
+    FACT(key('d', 31) == PASDRONGEL_REFUSED_SHORT);
+    FACT(key('d', 32) == PASDRONGEL_DONE && letters[31] == letter_of("đ"));
+    FACT(remove_last(31) == PASDRONGEL_DONE);
+    FACT(key('a', 32) == PASDRONGEL_DONE && key('j', 32) == PASDRONGEL_DONE && letters[31] == letter_of("ạ"));
+    FACT(key('j', 0) == PASDRONGEL_REFUSED_SHORT);
+    FACT(key('b', 0) == PASDRONGEL_REFUSED_FULL);
+    /* English: the letter passes through, nothing changes; no 2, and 3 where one letter has no room */
+    FACT(set_mode(PASDRONGEL_ENGLISH) == PASDRONGEL_DONE);
+    for (i = 0; i < 32; i++)
+        FACT(literal('x') == PASDRONGEL_DONE);
+    FACT(key(FOREIGN, 0) == PASDRONGEL_REFUSED_FOREIGN);
+    FACT(key('s', 0) == PASDRONGEL_REFUSED_SHORT);
+    FACT(key('s', 1) == PASDRONGEL_DONE && wrote("s") && state[2] == 32);
+    FACT(key('S', 9) == PASDRONGEL_DONE && wrote("S"));
+}
+
+static void change_facts(void)
+{
+    uint8_t before[STATE];
+    size_t i;
+    /* the ladder of the literal: 10, 1, 2; it is appended in either mode and composes nothing */
+    FACT(types(PASDRONGEL_TELEX, "a", "a"));
+    FACT(literal('s') == PASDRONGEL_DONE && shows("as"));
+    FACT(literal(letter_of("Ấ")) == PASDRONGEL_DONE && shows("asẤ") && cell(2)[7] == 1);
+    FACT(set_mode(PASDRONGEL_ENGLISH) == PASDRONGEL_DONE && shows(""));
+    for (i = 0; i < 32; i++)
+        FACT(literal('a') == PASDRONGEL_DONE);
+    state[1] = 7;
+    FACT(literal(FOREIGN) == PASDRONGEL_REFUSED_UNSOUND);
+    state[1] = PASDRONGEL_ENGLISH;
+    FACT(literal(FOREIGN) == PASDRONGEL_REFUSED_FOREIGN);
+    FACT(literal('a') == PASDRONGEL_REFUSED_FULL);
+    FACT(set_mode(PASDRONGEL_VIETNAMESE) == PASDRONGEL_DONE && state[2] == 32);
+
+    /* the ladder of the text: 10, 3 */
+    FACT(types(PASDRONGEL_TELEX, "tieens", "tiến"));
+    state[1] = 2;
+    FACT(text(0) == PASDRONGEL_REFUSED_UNSOUND);
+    state[1] = PASDRONGEL_VIETNAMESE;
+    FACT(text(0) == PASDRONGEL_REFUSED_SHORT);
+    FACT(text(3) == PASDRONGEL_REFUSED_SHORT);
+    FACT(text(4) == PASDRONGEL_DONE && wrote("tiến"));
+
+    /* the ladder of the removal: 10, 4, 3. It needs room for what is left alone */
+    FACT(remove_last(2) == PASDRONGEL_REFUSED_SHORT);
+    FACT(remove_last(3) == PASDRONGEL_DONE && wrote("tiế") && shows("tiế"));
+    FACT(remove_last(2) == PASDRONGEL_DONE && remove_last(1) == PASDRONGEL_DONE && wrote("t"));
+    FACT(remove_last(0) == PASDRONGEL_DONE && count == 0);
+    FACT(remove_last(0) == PASDRONGEL_REFUSED_EMPTY);
+    state[2] = 0, state[3] = 't';
+    FACT(remove_last(0) == PASDRONGEL_REFUSED_UNSOUND);
+    state[3] = 0;
+    fresh(PASDRONGEL_TELEX);
+    memcpy(before, state, STATE);
+    type("DDeens");
+    for (i = state[2]; i > 0; i--)
+        FACT(remove_last(PASDRONGEL_TEXT_ROOM) == PASDRONGEL_DONE);
+    FACT(memcmp(before, state, STATE) == 0);  /* a removed cell is blank again */
+
+    /* reset and settings refuse by 10 alone: an unsound composition, or a number that is no method or mode */
+    FACT(types(PASDRONGEL_VNI, "a1", "á"));
+    FACT(set_method(2) == PASDRONGEL_REFUSED_UNSOUND && set_method(0x100) == PASDRONGEL_REFUSED_UNSOUND);
+    FACT(set_mode(2) == PASDRONGEL_REFUSED_UNSOUND && set_mode(0xffffffff) == PASDRONGEL_REFUSED_UNSOUND);
+    FACT(set_mode(PASDRONGEL_VIETNAMESE) == PASDRONGEL_DONE && shows("á"));
+    FACT(reset() == PASDRONGEL_DONE && shows("") && state[0] == PASDRONGEL_VNI && state[1] == PASDRONGEL_VIETNAMESE);
+    FACT(set_mode(PASDRONGEL_ENGLISH) == PASDRONGEL_DONE && literal('a') == PASDRONGEL_DONE && shows("a"));
+    FACT(set_mode(PASDRONGEL_ENGLISH) == PASDRONGEL_DONE && shows(""));
+    FACT(literal('a') == PASDRONGEL_DONE && set_method(PASDRONGEL_TELEX) == PASDRONGEL_DONE && shows(""));
+    FACT(state[0] == PASDRONGEL_TELEX && state[1] == PASDRONGEL_ENGLISH);
+    FACT(literal('a') == PASDRONGEL_DONE && reset() == PASDRONGEL_DONE && shows("") && state[1] == PASDRONGEL_ENGLISH);
+    FACT(literal('a') == PASDRONGEL_DONE && set_mode(PASDRONGEL_VIETNAMESE) == PASDRONGEL_DONE && shows("a"));
+    type("s");
+    FACT(wrote("á"));
+}
+
+static void undo_facts(void)
+{
+    uint32_t raw[PASDRONGEL_WORD_LETTERS + 1];
+    size_t i;
+    /* the paper's, and the other rules */
+    FACT(types(PASDRONGEL_TELEX, "uaw", "ưa") && undo('w', "uaw") == PASDRONGEL_REFUSED_NO_UNDO && shows("ưa"));
+    FACT(types(PASDRONGEL_TELEX, "dd", "đ") && undo('d', "dd") == PASDRONGEL_DONE && number == PASDRONGEL_CONSUME && shows("d"));
+    FACT(types(PASDRONGEL_TELEX, "DD", "đ") && undo('D', "DD") == PASDRONGEL_DONE && number == PASDRONGEL_CONSUME && shows("D"));
+    FACT(types(PASDRONGEL_TELEX, "as", "á") && undo('s', "as") == PASDRONGEL_DONE && number == PASDRONGEL_APPEND && shows("a"));
+    FACT(types(PASDRONGEL_TELEX, "as", "á") && undo('S', "as") == PASDRONGEL_DONE && number == PASDRONGEL_APPEND && shows("a"));
+    FACT(types(PASDRONGEL_TELEX, "as", "á") && undo('s', "asx") == PASDRONGEL_REFUSED_NO_UNDO);
+    FACT(types(PASDRONGEL_TELEX, "aa", "â") && undo('a', "aa") == PASDRONGEL_DONE && number == PASDRONGEL_APPEND && shows("a"));
+    FACT(types(PASDRONGEL_TELEX, "aan", "ân") && undo('a', "aan") == PASDRONGEL_DONE && shows("an"));
+    FACT(types(PASDRONGEL_TELEX, "aai", "âi") && undo('a', "aai") == PASDRONGEL_REFUSED_NO_UNDO && shows("âi"));
+    FACT(types(PASDRONGEL_TELEX, "aas", "ấ") && undo('a', "aas") == PASDRONGEL_REFUSED_NO_UNDO && shows("ấ"));
+    FACT(types(PASDRONGEL_TELEX, "a", "a") && undo(0, "a") == PASDRONGEL_REFUSED_NO_UNDO);
+    fresh(PASDRONGEL_TELEX);
+    FACT(undo('s', "") == PASDRONGEL_REFUSED_NO_UNDO && shows(""));
+
+    /* the ladder: 10, 6, 1 (trigger, then raw string), 5 */
+    for (i = 0; i < sizeof raw / sizeof *raw; i++)
+        raw[i] = 'b';
+    raw[63] = FOREIGN;
+    FACT(types(PASDRONGEL_TELEX, "as", "á"));
+    state[2] = 33;
+    FACT(undo_raw(FOREIGN, raw, PASDRONGEL_WORD_LETTERS + 1) == PASDRONGEL_REFUSED_UNSOUND);
+    state[2] = 1;
+    FACT(undo_raw(FOREIGN, raw, PASDRONGEL_WORD_LETTERS + 1) == PASDRONGEL_REFUSED_LONG);
+    FACT(undo_raw(FOREIGN, raw, PASDRONGEL_WORD_LETTERS) == PASDRONGEL_REFUSED_FOREIGN);
+    FACT(undo_raw('s', raw, PASDRONGEL_WORD_LETTERS) == PASDRONGEL_REFUSED_FOREIGN);
+    raw[63] = 'b';
+    FACT(undo_raw(FOREIGN, raw, PASDRONGEL_WORD_LETTERS) == PASDRONGEL_REFUSED_FOREIGN);
+    FACT(undo_raw('s', raw, PASDRONGEL_WORD_LETTERS) == PASDRONGEL_REFUSED_NO_UNDO);
+    raw[63] = 's';
+    FACT(undo_raw('s', raw, PASDRONGEL_WORD_LETTERS) == PASDRONGEL_DONE && number == PASDRONGEL_APPEND && shows("a"));
+    /* under VNI the same ladder, and always 5 at its end */
+    FACT(types(PASDRONGEL_VNI, "a1", "á"));
+    raw[63] = FOREIGN;
+    FACT(undo_raw('1', raw, PASDRONGEL_WORD_LETTERS + 1) == PASDRONGEL_REFUSED_LONG);
+    FACT(undo_raw('1', raw, PASDRONGEL_WORD_LETTERS) == PASDRONGEL_REFUSED_FOREIGN);
+    FACT(undo('1', "a1") == PASDRONGEL_REFUSED_NO_UNDO && shows("á"));
+}
+
+/* ---- input methods */
+
+static void method_facts(void)
+{
+    static const char *const rules[2][7] = {
+        {"awă", "aaâ", "eeê", "ooô", "owơ", "uwư", "ddđ"}, {"a6â", "e6ê", "o6ô", "o7ơ", "u7ư", "a8ă", "d9đ"}};
+    static const char tones[2][6] = {"fsrxj", "12345"};
+    static const char horns[2] = {'w', '7'};
+    uint32_t method, letter, rule[3];
+    size_t i;
+    /* the ladder: 10, 1 */
+    FACT(of_key(pasdrongel_is_tone_key, 2, FOREIGN) == PASDRONGEL_REFUSED_UNSOUND);
+    FACT(of_key(pasdrongel_is_horn_key, 0xffffffff, FOREIGN) == PASDRONGEL_REFUSED_UNSOUND);
+    FACT(mark_for(2, FOREIGN, FOREIGN) == PASDRONGEL_REFUSED_UNSOUND);
+    for (method = 0; method < 2; method++) {
+        FACT(of_key(pasdrongel_is_tone_key, method, FOREIGN) == PASDRONGEL_REFUSED_FOREIGN);
+        FACT(of_key(pasdrongel_is_horn_key, method, FOREIGN) == PASDRONGEL_REFUSED_FOREIGN);
+        FACT(mark_for(method, FOREIGN, FOREIGN) == PASDRONGEL_REFUSED_FOREIGN);
+        FACT(mark_for(method, 'a', FOREIGN) == PASDRONGEL_REFUSED_FOREIGN);
+        FACT(mark_for(method, FOREIGN, 'a') == PASDRONGEL_REFUSED_FOREIGN);
+        for (letter = 0; letter < 0x80; letter++) {
+            FACT(of_key(pasdrongel_is_tone_key, method, letter) == PASDRONGEL_DONE);
+            FACT(number == (letter != 0 && strchr(tones[method], (int)letter) != NULL));
+            FACT(of_key(pasdrongel_is_horn_key, method, letter) == PASDRONGEL_DONE);
+            FACT(number == (letter == (uint32_t)horns[method]));
+        }
+        for (i = 0; i < 7; i++) {
+            FACT(spelt(rules[method][i], rule) == 3);
+            FACT(mark_for(method, rule[0], rule[1]) == PASDRONGEL_DONE && number == rule[2]);
+            FACT(mark_for(1 - method, rule[0], rule[1]) == PASDRONGEL_DONE && number == 0);
+            FACT(mark_for(method, rule[0] - 32, rule[1]) == PASDRONGEL_DONE && number == 0);
+        }
+    }
+}
+
+/* ---- the speller */
+
+/* Is the word cut into these parts? */
+static int cuts(const char *onset, const char *vowels, const char *coda)
+{
+    uint32_t word[MOST];
+    size_t first = spelt(onset, word), second = first + spelt(vowels, word + first);
+    size_t length = second + spelt(coda, word + second);
+    return cut_letters(word, length) == PASDRONGEL_DONE && count == first && place == second;
+}
+
+static int judged(const char *text, uint32_t verdict)
+{
+    uint32_t word[MOST];
+    size_t length = spelt(text, word);
+    return judge_letters(word, length) == PASDRONGEL_DONE && number == verdict;
+}
+
+static void speller_facts(void)
+{
+    uint32_t word[PASDRONGEL_WORD_LETTERS + 1];
+    size_t i;
+    FACT(cuts("gi", "a", "") && cuts("", "", "") && cuts("Anh", "", "") && cuts("qu", "ả", "") && cuts("ngh", "iê", "ng"));
+    FACT(cuts("q", "u", "") && cuts("g", "ì", "") && cuts("gi", "ê", "ng") && cuts("b", "a", "nana") && cuts("GI", "a", ""));
+    FACT(judged("", 0) && judged("qu", 0) && judged("gi", 1) && judged("bic", 1) && judged("băk", 1) && judged("màt", 1));
+    FACT(judged("uơ", 1) && judged("uơn", 0) && judged("za", 0) && judged("PHÂN", 1) && judged("Phần", 1) && judged("b", 1));
+    FACT(judged("giếng", 0) && judged("a ", 0) && judged("phân2", 0) && judged("nghuyêch", 1) && judged("nghuyêchh", 0));
+    /* the ladder of both: 6, 1 */
+    for (i = 0; i < sizeof word / sizeof *word; i++)
+        word[i] = 'a';
+    word[63] = FOREIGN;
+    FACT(cut_letters(word, PASDRONGEL_WORD_LETTERS + 1) == PASDRONGEL_REFUSED_LONG);
+    FACT(judge_letters(word, PASDRONGEL_WORD_LETTERS + 1) == PASDRONGEL_REFUSED_LONG);
+    FACT(cut_letters(word, PASDRONGEL_WORD_LETTERS) == PASDRONGEL_REFUSED_FOREIGN);
+    FACT(judge_letters(word, PASDRONGEL_WORD_LETTERS) == PASDRONGEL_REFUSED_FOREIGN);
+    word[63] = 'a';
+    FACT(cut_letters(word, PASDRONGEL_WORD_LETTERS) == PASDRONGEL_DONE && count == 0 && place == PASDRONGEL_WORD_LETTERS);
+    FACT(judge_letters(word, PASDRONGEL_WORD_LETTERS) == PASDRONGEL_DONE && number == 0);
+}
+
+/* ---- the list */
+
+static int followed(const char *after, const char *expected)
+{
+    uint32_t word[MOST];
+    size_t length = spelt(after, word);
+    return next_letters(word, length, PASDRONGEL_LISTED_ROOM) == PASDRONGEL_DONE && wrote(expected);
+}
+
+static void list_facts(void)
+{
+    static const char *const first[] = {"a", "ac", "ach", "ai", "am", "an", "ang", "anh", "ao", "ap", "at", "au", "ay", "b"};
+    uint32_t word[PASDRONGEL_WORD_LETTERS + 1];
+    size_t i, words, length = 0, longest = 0;
+    FACT(total() == PASDRONGEL_DONE && count == 5963);
+    words = count;
+    for (i = 0; i < sizeof first / sizeof *first; i++)
+        FACT(word_of(i, PASDRONGEL_LISTED_ROOM) == PASDRONGEL_DONE && wrote(first[i]));
+    FACT(followed("ay", "b") && followed("az", "b") && followed("B", "a") && followed("", "a") && followed("z", "â"));
+    FACT(followed("á", "â") && followed("đ", "đa") && followed("bà", "bâ") && followed("ươi", "ươm"));
+    /* the ladder of the word: 7, 3 */
+    FACT(word_of(5963, 0) == PASDRONGEL_REFUSED_NO_WORD && word_of(SIZE_MAX, 0) == PASDRONGEL_REFUSED_NO_WORD);
+    FACT(word_of(5962, 2) == PASDRONGEL_REFUSED_SHORT);
+    FACT(word_of(5962, 3) == PASDRONGEL_DONE && wrote("ươu"));
+    /* the ladder of the next word: 6, 1, 7, 3 */
+    for (i = 0; i < sizeof word / sizeof *word; i++)
+        word[i] = letter_of("ỹ");
+    word[63] = FOREIGN;
+    FACT(next_letters(word, PASDRONGEL_WORD_LETTERS + 1, 0) == PASDRONGEL_REFUSED_LONG);
+    FACT(next_letters(word, PASDRONGEL_WORD_LETTERS, 0) == PASDRONGEL_REFUSED_FOREIGN);
+    word[63] = word[0];
+    FACT(next_letters(word, PASDRONGEL_WORD_LETTERS, 0) == PASDRONGEL_REFUSED_NO_WORD);
+    FACT(next_letters(word, spelt("ươu", word), PASDRONGEL_LISTED_ROOM) == PASDRONGEL_REFUSED_NO_WORD);
+    FACT(next_letters(word, spelt("ươi", word), 2) == PASDRONGEL_REFUSED_SHORT);
+    /* the whole list: each word is accepted, and is the next after the one before */
+    for (i = 0; i < words; i++) {
+        FACT(next_letters(word, length, PASDRONGEL_LISTED_ROOM) == PASDRONGEL_DONE);
+        length = count;
+        memcpy(word, letters, length * sizeof *word);
+        FACT(word_of(i, PASDRONGEL_LISTED_ROOM) == PASDRONGEL_DONE && count == length);
+        FACT(memcmp(word, letters, length * sizeof *word) == 0);
+        FACT(judge_letters(word, length) == PASDRONGEL_DONE && number == 1);
+        longest = length > longest ? length : longest;
+    }
+    FACT(longest == PASDRONGEL_LISTED_ROOM);
+    FACT(next_letters(word, length, PASDRONGEL_LISTED_ROOM) == PASDRONGEL_REFUSED_NO_WORD);
+}
+
+/* ---- the library */
+
+static void library_facts(void)
+{
+    uint32_t i, j;
+    FACT(pasdrongel_version() == PASDRONGEL_VERSION);
+    FACT(PASDRONGEL_VERSION_MINOR < 1000 && PASDRONGEL_VERSION_PATCH < 1000);
+    for (i = 0; i <= PASDRONGEL_REFUSED_UNSOUND + 1; i++) {
+        const char *text = pasdrongel_refusal_text(i), *at;
+        FACT(text != NULL && *text != '\0');
+        for (at = text; *at != '\0'; at++)
+            FACT(*at >= ' ' && *at <= '~');
+        for (j = 0; j < i; j++)
+            FACT(strcmp(text, pasdrongel_refusal_text(j)) != 0);
+    }
+    FACT(pasdrongel_refusal_text(0xffffffff) == pasdrongel_refusal_text(PASDRONGEL_REFUSED_UNSOUND + 1));
+}
+
+int main(void)
+{
+    size_t i;
+    for (i = 0; i < EVERYTHING; i++)
+        lent_open(everything[i]);
+    library_facts();
+    letters_facts();
+    utf8_facts();
+    soundness_facts();
+    example_facts();
+    key_facts();
+    change_facts();
+    undo_facts();
+    method_facts();
+    speller_facts();
+    list_facts();
+    printf("%lu facts about %lu calls, %lu do not hold\n", facts, calls, failures);
+    return failures != 0;
+}

@@ -1,0 +1,85 @@
+/* Calls with a fault, to try tests/fuzz on: it must find each of them. FAULT in the environment says which one; the
+ * linker puts `__wrap_NAME` in the place of NAME (see tests/fuzz). */
+#include "pasdrongel.h"
+
+#include <stdlib.h>
+
+#define STATE PASDRONGEL_COMPOSITION_BYTES
+#define WRAP(name, ...) uint32_t __real_pasdrongel_##name(__VA_ARGS__); uint32_t __wrap_pasdrongel_##name(__VA_ARGS__)
+
+WRAP(key, uint8_t *state, size_t size, uint32_t key, uint32_t *out, size_t room, size_t *count);
+WRAP(literal, uint8_t *state, size_t size, uint32_t letter);
+WRAP(remove_last, uint8_t *state, size_t size, uint32_t *out, size_t room, size_t *count);
+WRAP(text, const uint8_t *state, size_t size, uint32_t *out, size_t room, size_t *count);
+WRAP(composition_ok, const uint8_t *state, size_t size);
+WRAP(read_utf8, const uint8_t *bytes, size_t length, uint32_t *letters, size_t room, size_t *count);
+
+static int fault(int n)
+{
+    static int asked;
+    if (asked == 0)
+        asked = atoi(getenv("FAULT"));
+    return asked == n;
+}
+
+uint32_t __wrap_pasdrongel_key(uint8_t *state, size_t size, uint32_t key, uint32_t *out, size_t room, size_t *count)
+{
+    uint32_t refusal = __real_pasdrongel_key(state, size, key, out, room, count);
+    if (fault(1) && refusal == PASDRONGEL_DONE && *count < room)
+        out[*count] = 0;    /* the answer is ended by a 0 */
+    if (fault(2) && refusal == PASDRONGEL_DONE)
+        out[room] = 0;      /* a letter past what is lent */
+    if (fault(3) && refusal == PASDRONGEL_DONE)
+        out[-1] = 0;        /* a letter before it */
+    if (fault(4) && refusal == PASDRONGEL_REFUSED_SHORT && room > 0)
+        out[0] = 'a';       /* a refusal that has begun to write */
+    return refusal;
+}
+
+uint32_t __wrap_pasdrongel_literal(uint8_t *state, size_t size, uint32_t letter)
+{
+    uint32_t refusal = __real_pasdrongel_literal(state, size, letter);
+    if (fault(5) && refusal == PASDRONGEL_REFUSED_FOREIGN)
+        state[2]++;         /* a refusal that counts its cell */
+    if (fault(6) && refusal == PASDRONGEL_REFUSED_FULL)
+        return PASDRONGEL_REFUSED_SHORT;
+    return refusal;
+}
+
+uint32_t __wrap_pasdrongel_remove_last(uint8_t *state, size_t size, uint32_t *out, size_t room, size_t *count)
+{
+    uint32_t refusal = __real_pasdrongel_remove_last(state, size, out, room, count);
+    if (fault(7) && refusal == PASDRONGEL_DONE && state[2] < 32)
+        state[3 + 8 * state[2]] = 'a'; /* the cell is not blank: unsound */
+    if (fault(8) && refusal == PASDRONGEL_DONE && *count > 0)
+        out[0] = 'a';       /* not the text of what is left */
+    return refusal;
+}
+
+uint32_t __wrap_pasdrongel_text(const uint8_t *state, size_t size, uint32_t *out, size_t room, size_t *count)
+{
+    if (fault(9) && room > 0 && out[0] % 2 == 0)
+        return PASDRONGEL_REFUSED_SHORT; /* goes by what stood in the output */
+    if (fault(10) && room == 0)
+        return PASDRONGEL_REFUSED_SHORT; /* there may be nothing to write */
+    return __real_pasdrongel_text(state, size, out, room, count);
+}
+
+uint32_t __wrap_pasdrongel_composition_ok(const uint8_t *state, size_t size)
+{
+    if (fault(11) && state[size] == 7)
+        return PASDRONGEL_REFUSED_UNSOUND; /* reads past what is lent */
+    if (fault(12) && size == STATE && state[2] == 33)
+        return PASDRONGEL_DONE;
+    return __real_pasdrongel_composition_ok(state, size);
+}
+
+uint32_t __wrap_pasdrongel_read_utf8(const uint8_t *bytes, size_t length, uint32_t *letters, size_t room, size_t *count)
+{
+    uint32_t refusal = __real_pasdrongel_read_utf8(bytes, length, letters, room, count);
+    if (fault(13) && refusal == PASDRONGEL_REFUSED_MALFORMED)
+        *count = 0;         /* a refusal that says a count */
+    if (fault(14) && refusal == PASDRONGEL_REFUSED_LONG && bytes[length - 1] == bytes[-1])
+        return PASDRONGEL_REFUSED_MALFORMED; /* reads before what is lent */
+    return refusal;
+}

@@ -1,0 +1,579 @@
+/* Random calls of the header, in sessions on one composition, with guards around everything that is lent.
+ *
+ *   SEED=7 SCALE=20 fuzz      other calls, and twenty times as many; the last line is `N calls, F faults`
+ *
+ * Of each call it is asked, whatever it is given:
+ * - It returns 0 or one of its own refusals, and by 10 exactly where the bytes are no sound composition.
+ * - Nothing outside of what it is lent is read or written (lent.h), and nothing that is lent to be read is written.
+ * - After a refusal nothing has changed. After an answer: the answer alone, at the start of the output.
+ * - What was a sound composition is one after the call, by a test of the bytes that is written here.
+ * - The same call on other memory, with other content in its outputs, does the same.
+ * - A refusal by 3 is one for want of room: with enough of it the answer is longer than the room was. And an answer with
+ *   room to spare is refused by 3 where the room is one less than the answer.
+ * At the end every refusal of every call must have been met, so that the run says something of each. */
+#include "lent.h"
+#include "pasdrongel.h"
+
+#define STATE PASDRONGEL_COMPOSITION_BYTES
+#define MOST_STATE (2 * STATE)
+#define MOST_INPUT 300
+#define MOST_ROOM 300
+#define MOST_SHOWN 20
+
+/* ---- random numbers: xorshift64* */
+
+static uint64_t random_state;
+
+static uint32_t random_word(void)
+{
+    random_state ^= random_state >> 12;
+    random_state ^= random_state << 25;
+    random_state ^= random_state >> 27;
+    return (uint32_t)((random_state * 0x2545f4914f6cdd1du) >> 32);
+}
+
+static uint32_t below(uint32_t limit)
+{
+    return (uint32_t)((uint64_t)random_word() * limit >> 32);
+}
+
+static int one_in(uint32_t n)
+{
+    return below(n) == 0;
+}
+
+/* ---- a call, what it is given, and what it leaves */
+
+struct given {
+    uint8_t state[MOST_STATE];
+    size_t state_size;
+    uint32_t input[MOST_INPUT]; /* letters, or bytes one in each */
+    size_t length;
+    uint32_t a, b, c;           /* numbers */
+    size_t room;
+};
+
+struct places {
+    uint8_t *state;
+    size_t state_size;
+    void *input;
+    size_t length;
+    void *output;
+    size_t room;
+    void *first, *second;
+};
+
+typedef uint32_t caller(const struct given *g, const struct places *p);
+
+#define CALL(name, ...)                                                    \
+    static uint32_t call_##name(const struct given *g, const struct places *p) \
+    {                                                                      \
+        (void)g, (void)p;                                                  \
+        return pasdrongel_##name(__VA_ARGS__);                             \
+    }
+
+#define WITH_STATE p->state, p->state_size
+#define WITH_INPUT p->input, p->length
+#define WITH_OUTPUT p->output, p->room, p->first
+
+CALL(check_letter, g->a)
+CALL(lower, g->a, p->first)
+CALL(upper, g->a, p->first)
+CALL(is_capital, g->a, p->first)
+CALL(is_white_space, g->a, p->first)
+CALL(tone_on, g->a, g->b, p->first)
+CALL(tone_off, g->a, p->first)
+CALL(is_composer_vowel, g->a, p->first)
+CALL(is_speller_vowel, g->a, p->first)
+CALL(read_utf8, WITH_INPUT, WITH_OUTPUT)
+CALL(write_utf8, WITH_INPUT, WITH_OUTPUT)
+CALL(new, WITH_STATE, g->a)
+CALL(composition_ok, WITH_STATE)
+CALL(key, WITH_STATE, g->a, WITH_OUTPUT)
+CALL(literal, WITH_STATE, g->a)
+CALL(text, WITH_STATE, WITH_OUTPUT)
+CALL(remove_last, WITH_STATE, WITH_OUTPUT)
+CALL(reset, WITH_STATE)
+CALL(set_method, WITH_STATE, g->a)
+CALL(set_mode, WITH_STATE, g->a)
+CALL(undo, WITH_STATE, g->a, WITH_INPUT, p->first)
+CALL(is_tone_key, g->a, g->b, p->first)
+CALL(is_horn_key, g->a, g->b, p->first)
+CALL(mark_for, g->a, g->b, g->c, p->first)
+CALL(cut, WITH_INPUT, p->first, p->second)
+CALL(verdict, WITH_INPUT, p->first)
+CALL(total, p->first)
+CALL(word, g->a, WITH_OUTPUT)
+CALL(next_word, WITH_INPUT, WITH_OUTPUT)
+
+/* What `a` is for; `b` and `c` are letters. */
+enum numbers { NO_NUMBER, LETTER, KEY, SETTING, PLACE };
+/* What becomes of the composition. */
+enum use { NO_STATE, READ, CHANGED, MADE };
+
+#define R(n) (1u << (n))
+
+static const struct kind {
+    const char *name;
+    caller *call;
+    unsigned refusals; /* bit n: the call has refusal n */
+    enum use use;
+    enum numbers numbers;
+    size_t input, output;   /* the bytes of an item; 0 if there is none */
+    size_t first, second;   /* the bytes of the lent numbers */
+    unsigned weight;        /* how often, against the others */
+} kinds[] = {
+    {"check_letter", call_check_letter, R(1), NO_STATE, LETTER, 0, 0, 0, 0, 1},
+    {"lower", call_lower, R(1), NO_STATE, LETTER, 0, 0, 4, 0, 1},
+    {"upper", call_upper, R(1), NO_STATE, LETTER, 0, 0, 4, 0, 1},
+    {"is_capital", call_is_capital, R(1), NO_STATE, LETTER, 0, 0, 4, 0, 1},
+    {"is_white_space", call_is_white_space, R(1), NO_STATE, LETTER, 0, 0, 4, 0, 1},
+    {"tone_on", call_tone_on, R(1), NO_STATE, LETTER, 0, 0, 4, 0, 1},
+    {"tone_off", call_tone_off, R(1), NO_STATE, LETTER, 0, 0, 4, 0, 1},
+    {"is_composer_vowel", call_is_composer_vowel, R(1), NO_STATE, LETTER, 0, 0, 4, 0, 1},
+    {"is_speller_vowel", call_is_speller_vowel, R(1), NO_STATE, LETTER, 0, 0, 4, 0, 1},
+    {"read_utf8", call_read_utf8, R(6) | R(8) | R(1) | R(3), NO_STATE, NO_NUMBER, 1, 4, sizeof(size_t), 0, 8},
+    {"write_utf8", call_write_utf8, R(6) | R(1) | R(3), NO_STATE, NO_NUMBER, 4, 1, sizeof(size_t), 0, 6},
+    {"new", call_new, R(10), MADE, SETTING, 0, 0, 0, 0, 1},
+    {"composition_ok", call_composition_ok, R(10), READ, NO_NUMBER, 0, 0, 0, 0, 12},
+    {"key", call_key, R(10) | R(1) | R(2) | R(3), CHANGED, KEY, 0, 4, sizeof(size_t), 0, 120},
+    {"literal", call_literal, R(10) | R(1) | R(2), CHANGED, KEY, 0, 0, 0, 0, 12},
+    {"text", call_text, R(10) | R(3), READ, NO_NUMBER, 0, 4, sizeof(size_t), 0, 8},
+    {"remove_last", call_remove_last, R(10) | R(4) | R(3), CHANGED, NO_NUMBER, 0, 4, sizeof(size_t), 0, 16},
+    {"reset", call_reset, R(10), CHANGED, NO_NUMBER, 0, 0, 0, 0, 1},
+    {"set_method", call_set_method, R(10), CHANGED, SETTING, 0, 0, 0, 0, 1},
+    {"set_mode", call_set_mode, R(10), CHANGED, SETTING, 0, 0, 0, 0, 1},
+    {"undo", call_undo, R(10) | R(6) | R(1) | R(5), CHANGED, KEY, 4, 0, 4, 0, 16},
+    {"is_tone_key", call_is_tone_key, R(10) | R(1), NO_STATE, SETTING, 0, 0, 4, 0, 1},
+    {"is_horn_key", call_is_horn_key, R(10) | R(1), NO_STATE, SETTING, 0, 0, 4, 0, 1},
+    {"mark_for", call_mark_for, R(10) | R(1), NO_STATE, SETTING, 0, 0, 4, 0, 2},
+    {"cut", call_cut, R(6) | R(1), NO_STATE, NO_NUMBER, 4, 0, sizeof(size_t), sizeof(size_t), 6},
+    {"verdict", call_verdict, R(6) | R(1), NO_STATE, NO_NUMBER, 4, 0, 4, 0, 6},
+    {"total", call_total, 0, NO_STATE, NO_NUMBER, 0, 0, sizeof(size_t), 0, 1},
+    {"word", call_word, R(7) | R(3), NO_STATE, PLACE, 0, 4, sizeof(size_t), 0, 6},
+    {"next_word", call_next_word, R(6) | R(1) | R(7) | R(3), NO_STATE, NO_NUMBER, 4, 4, sizeof(size_t), 0, 8},
+};
+#define KINDS (sizeof kinds / sizeof *kinds)
+#define REFUSALS 11
+
+static unsigned long met[KINDS][REFUSALS], calls, faults;
+
+static void fault(const struct kind *kind, const char *what)
+{
+    if (++faults <= MOST_SHOWN)
+        printf("call %lu, %s: %s\n", calls, kind->name, what);
+}
+
+/* ---- the composition, as docs/BYTES.md has it */
+
+static int is_letter(uint32_t x)
+{
+    return pasdrongel_check_letter(x) == PASDRONGEL_DONE;
+}
+
+static int is_cell(const uint8_t *cell)
+{
+    static const uint16_t marks[] = {0x103, 0xe2, 0xea, 0xf4, 0x1a1, 0x1b0, 0x111};
+    uint32_t base = cell[0] | (uint32_t)cell[1] << 8 | (uint32_t)cell[2] << 16 | (uint32_t)cell[3] << 24;
+    uint32_t mark = cell[4] | (uint32_t)cell[5] << 8;
+    size_t i;
+    if (!is_letter(base) || cell[7] > 1 || (cell[6] != 0 && memchr("fsrxj12345", cell[6], 10) == NULL))
+        return 0;
+    for (i = 0; i < sizeof marks / sizeof *marks; i++)
+        if (mark == marks[i])
+            return mark == base;
+    return mark == 0;
+}
+
+static int is_sound(const uint8_t *state, size_t size)
+{
+    static const uint8_t blank[8];
+    size_t i;
+    if (size != STATE || state[0] > 1 || state[1] > 1 || state[2] > 32)
+        return 0;
+    for (i = 0; i < 32; i++)
+        if (i < state[2] ? !is_cell(state + 3 + 8 * i) : memcmp(state + 3 + 8 * i, blank, 8) != 0)
+            return 0;
+    return 1;
+}
+
+/* ---- one call, held to what is asked of it */
+
+static struct lent the_state, the_input, the_output, the_first, the_second;
+
+struct left {
+    uint32_t refusal;
+    uint8_t state[MOST_STATE];
+    size_t count;
+    uint8_t output[4 * MOST_ROOM], first[8], second[8];
+};
+
+static void make_call(const struct kind *kind, const struct given *g, enum end end, unsigned char guard, struct left *left)
+{
+    uint8_t narrow[MOST_INPUT], before[4 * MOST_ROOM];
+    struct places p;
+    size_t i;
+    for (i = 0; i < g->length; i++)
+        narrow[i] = (uint8_t)g->input[i];
+    for (i = 0; i < sizeof before; i++)
+        before[i] = (uint8_t)random_word();
+    p.state = lend(&the_state, g->state, kind->use == NO_STATE ? 0 : g->state_size, end, guard);
+    p.state_size = the_state.size;
+    p.input = lend(&the_input, kind->input == 1 ? (const void *)narrow : g->input, kind->input * g->length, end, guard);
+    p.length = g->length;
+    p.output = lend(&the_output, before, kind->output * g->room, end, guard);
+    p.room = g->room;
+    p.first = lend(&the_first, before, kind->first, end, guard);
+    p.second = lend(&the_second, before, kind->second, end, guard);
+    calls++;
+    left->refusal = kind->call(g, &p);
+    left->count = 0;
+    if (left->refusal == PASDRONGEL_DONE && kind->output != 0)
+        memcpy(&left->count, p.first, sizeof left->count);
+    if (left->count > g->room) {
+        fault(kind, "it counts more than there is room for");
+        left->count = 0;
+    }
+    memcpy(left->state, p.state, the_state.size);
+    memcpy(left->output, p.output, left->count * kind->output);
+    memset(left->first, 0, sizeof left->first);
+    memset(left->second, 0, sizeof left->second);
+    if (left->refusal == PASDRONGEL_DONE) {
+        memcpy(left->first, p.first, kind->first);
+        memcpy(left->second, p.second, kind->second);
+    }
+}
+
+static void hold_memory(const struct kind *kind, const struct left *left)
+{
+    int done = left->refusal == PASDRONGEL_DONE;
+    if (!kept(&the_input, 0))
+        fault(kind, "what was lent to be read has changed, or what is beside it");
+    if (!kept(&the_state, done && kind->use >= CHANGED ? the_state.size : 0))
+        fault(kind, done ? "the composition has changed, or what is beside it" : "a refusal changed the composition");
+    if (!kept(&the_output, left->count * kind->output))
+        fault(kind, done ? "the output has changed past the answer" : "a refusal changed the output");
+    if (!kept(&the_first, done ? kind->first : 0) || !kept(&the_second, done ? kind->second : 0))
+        fault(kind, done ? "what is beside a lent number has changed" : "a refusal changed a lent number");
+}
+
+static void hold_answer(const struct kind *kind, const struct given *g, const struct left *left)
+{
+    int sound = kind->use == NO_STATE || is_sound(g->state, g->state_size);
+    uint32_t letter;
+    size_t i;
+    if (left->refusal != PASDRONGEL_DONE && (left->refusal >= REFUSALS || !(kind->refusals & R(left->refusal)))) {
+        fault(kind, "it has no such refusal");
+        return;
+    }
+    met[kind - kinds][left->refusal]++;
+    if (kind->use == MADE)
+        sound = g->state_size == STATE;
+    if (kind->numbers == SETTING)
+        sound = sound && g->a <= 1;
+    if (sound == (left->refusal == PASDRONGEL_REFUSED_UNSOUND))
+        fault(kind, sound ? "a sound composition is refused by 10" : "an unsound composition is not refused by 10");
+    if (left->refusal != PASDRONGEL_DONE)
+        return;
+    if (kind->use != NO_STATE && !is_sound(left->state, g->state_size))
+        fault(kind, "it left an unsound composition");
+    for (i = 0; kind->output == 4 && i < left->count; i++) {
+        memcpy(&letter, left->output + 4 * i, sizeof letter);
+        if (!is_letter(letter))
+            fault(kind, "it wrote what is no letter");
+    }
+}
+
+static int same(const struct kind *kind, const struct given *g, const struct left *one, const struct left *other)
+{
+    return one->refusal == other->refusal && one->count == other->count
+        && memcmp(one->state, other->state, kind->use == NO_STATE ? 0 : g->state_size) == 0
+        && memcmp(one->output, other->output, one->count * kind->output) == 0
+        && memcmp(one->first, other->first, sizeof one->first) == 0
+        && memcmp(one->second, other->second, sizeof one->second) == 0;
+}
+
+/* The same call with another room. */
+static void hold_room(const struct kind *kind, const struct given *g, const struct left *left)
+{
+    static struct given other;
+    static struct left again;
+    other = *g;
+    if (left->refusal == PASDRONGEL_REFUSED_SHORT)
+        other.room = MOST_ROOM;
+    else if (left->refusal == PASDRONGEL_DONE && left->count > 0)
+        other.room = left->count - 1;
+    else
+        return;
+    make_call(kind, &other, HIGH, 0x3c, &again);
+    hold_memory(kind, &again);
+    if (left->refusal == PASDRONGEL_DONE && again.refusal != PASDRONGEL_REFUSED_SHORT)
+        fault(kind, "it writes an answer that has no room");
+    if (left->refusal == PASDRONGEL_REFUSED_SHORT && (again.refusal != PASDRONGEL_DONE || again.count <= g->room))
+        fault(kind, "it refuses an answer that has room");
+}
+
+/* Makes the call twice and holds it to all that is asked; what it leaves is in `left`. */
+static void hold(const struct kind *kind, const struct given *g, struct left *left)
+{
+    static struct left again;
+    make_call(kind, g, HIGH, 0xa5, left);
+    hold_memory(kind, left);
+    hold_answer(kind, g, left);
+    make_call(kind, g, LOW, 0x5a, &again);
+    hold_memory(kind, &again);
+    if (!same(kind, g, left, &again))
+        fault(kind, "the same call does something else on other memory");
+    if (kind->output != 0 && one_in(8))
+        hold_room(kind, g, left);
+}
+
+/* ---- what the calls are given */
+
+static uint32_t any_letter(void)
+{
+    static const uint16_t others[] = {0xc0, 0xc1, 0xc2, 0xc3, 0xc8, 0xc9, 0xca, 0xcc, 0xcd, 0xd2, 0xd3, 0xd4, 0xd5, 0xd9,
+        0xda, 0xdd, 0xe0, 0xe1, 0xe2, 0xe3, 0xe8, 0xe9, 0xea, 0xec, 0xed, 0xf2, 0xf3, 0xf4, 0xf5, 0xf9, 0xfa, 0xfd, 0x102,
+        0x103, 0x110, 0x111, 0x128, 0x129, 0x168, 0x169, 0x1a0, 0x1a1, 0x1af, 0x1b0};
+    switch (below(4)) {
+    case 0:
+        return others[below(sizeof others / sizeof *others)];
+    case 1:
+        return 0x1ea0 + below(0x5a);
+    default:
+        return below(0x80);
+    }
+}
+
+static uint32_t any_number(void)
+{
+    return one_in(2) ? random_word() : below(0x2000) + (one_in(2) ? 0 : 0x10f000);
+}
+
+static uint32_t a_key(void)
+{
+    static const char keys[] = "aaaaeeeoooouuuuiyywwwwddddssfrxjbcghklmnpqtvgq123456789 .,!?;:\tAEOUDWSQ";
+    return one_in(200) ? any_number() : one_in(12) ? any_letter() : (uint32_t)keys[below(sizeof keys - 1)];
+}
+
+static size_t some_room(void)
+{
+    return one_in(8) ? below(4) : one_in(4) ? below(40) : 32 + below(MOST_ROOM - 31);
+}
+
+static void spell(struct given *g, uint32_t x)
+{
+    if (x < 0x80) {
+        g->input[g->length++] = x;
+    } else if (x < 0x800) {
+        g->input[g->length++] = 0xc0 | x >> 6;
+        g->input[g->length++] = 0x80 | (x & 0x3f);
+    } else if (x < 0x10000) {
+        g->input[g->length++] = 0xe0 | x >> 12;
+        g->input[g->length++] = 0x80 | (x >> 6 & 0x3f);
+        g->input[g->length++] = 0x80 | (x & 0x3f);
+    } else {
+        g->input[g->length++] = 0xf0 | (x >> 18 & 7);
+        g->input[g->length++] = 0x80 | (x >> 12 & 0x3f);
+        g->input[g->length++] = 0x80 | (x >> 6 & 0x3f);
+        g->input[g->length++] = 0x80 | (x & 0x3f);
+    }
+}
+
+/* Bytes: letters, now and then another code point, a changed byte, the end cut off. */
+static void some_bytes(struct given *g)
+{
+    size_t most = one_in(4) ? 250 + below(MOST_INPUT - 250) : one_in(2) ? below(12) : below(250);
+    g->length = 0;
+    while (g->length + 4 <= most)
+        spell(g, one_in(300) ? any_number() : any_letter());
+    while (g->length < most)
+        g->input[g->length++] = below(0x80);
+    if (g->length > 0 && one_in(3))
+        g->input[below((uint32_t)g->length)] = below(0x100);
+    if (g->length > 0 && one_in(8))
+        g->length -= below(3) % g->length;
+}
+
+/* Letters: of the alphabet or among the keys, now and then too many, or one that is foreign. */
+static void some_letters(struct given *g)
+{
+    size_t i;
+    g->length = one_in(6) ? 60 + below(10) : one_in(20) ? below(MOST_INPUT + 1) : below(10);
+    for (i = 0; i < g->length; i++)
+        g->input[i] = one_in(2) ? any_letter() : a_key();
+    if (g->length > 0 && one_in(10))
+        g->input[below((uint32_t)g->length)] = any_number();
+}
+
+/* ---- sessions */
+
+static uint8_t composition[STATE];
+static uint32_t typed[60]; /* the last keys, for undo */
+static size_t typed_length;
+
+static void remember(uint32_t key)
+{
+    if (typed_length == sizeof typed / sizeof *typed) {
+        memmove(typed, typed + 1, sizeof typed - sizeof *typed);
+        typed_length--;
+    }
+    typed[typed_length++] = key;
+}
+
+/* The session's composition, or one of another length, or with a byte changed: mostly one that says something, and to a
+ * value at some edge. */
+static void some_state(struct given *g, uint32_t rarity)
+{
+    static const uint8_t edges[] = {0, 1, 2, 31, 32, 33, 'a', 'f', 'z', 0x80, 0xff};
+    uint32_t in_use = 3 + 8 * composition[2];
+    memset(g->state, 0, sizeof g->state);
+    memcpy(g->state, composition, STATE);
+    g->state_size = STATE;
+    if (one_in(3 * rarity))
+        g->state_size = one_in(2) ? STATE - 1 + 2 * below(2) : below(MOST_STATE + 1);
+    if (one_in(rarity))
+        g->state[one_in(3) ? below(3) : below(one_in(4) ? STATE : in_use)] =
+            one_in(2) ? edges[below(sizeof edges)] : (uint8_t)below(256);
+}
+
+/* What a host gives to undo: the keys of the session, and after them those of a cell that has a tone or a mark, of which
+ * the last is the trigger. */
+static void to_undo(struct given *g)
+{
+    static const struct { uint8_t mark; char keys[3]; } rules[] = {
+        {0x03, "aw"}, {0xe2, "aa"}, {0xea, "ee"}, {0xf4, "oo"}, {0xa1, "ow"}, {0xb0, "uw"}, {0x11, "DD"}};
+    const uint8_t *cell = composition + 3;
+    size_t i;
+    for (i = below(33); i > 0 && (cell[4] | cell[6]) == 0; i--)
+        cell = composition + 3 + 8 * below(32);
+    memcpy(g->input, typed, typed_length * sizeof *typed);
+    g->length = typed_length;
+    for (i = 0; i < sizeof rules / sizeof *rules; i++)
+        if (cell[4] == rules[i].mark && cell[6] == 0) {
+            g->input[g->length++] = (uint32_t)rules[i].keys[0];
+            g->a = (uint32_t)rules[i].keys[1];
+        }
+    if (cell[6] != 0)
+        g->a = cell[6];
+    if (!one_in(8))
+        g->input[g->length++] = g->a;
+}
+
+static void prepare(const struct kind *kind, struct given *g)
+{
+    memset(g, 0, sizeof *g);
+    some_state(g, kind->use == READ ? 3 : 12);
+    g->room = some_room();
+    switch (kind->numbers) {
+    case NO_NUMBER:
+        break;
+    case LETTER:
+        g->a = one_in(4) ? any_number() : any_letter();
+        break;
+    case KEY:
+        g->a = a_key();
+        break;
+    case SETTING:
+        g->a = one_in(3) ? any_number() : below(3);
+        break;
+    case PLACE:
+        g->a = one_in(4) ? random_word() : below(6000);
+        break;
+    }
+    g->b = one_in(4) ? any_number() : a_key();
+    g->c = one_in(4) ? any_number() : a_key();
+    if (kind->input == 1)
+        some_bytes(g);
+    else if (kind->input == 4 && (kind->use == NO_STATE || one_in(3)))
+        some_letters(g);
+    else if (kind->input == 4)
+        to_undo(g);
+}
+
+static const struct kind *some_kind(void)
+{
+    unsigned total = 0, at;
+    size_t i;
+    for (i = 0; i < KINDS; i++)
+        total += kinds[i].weight;
+    at = below(total);
+    for (i = 0; at >= kinds[i].weight; i++)
+        at -= kinds[i].weight;
+    return &kinds[i];
+}
+
+/* In Vietnamese mode the key, and always the removal, write the text of what they leave. */
+static void hold_text(const struct kind *kind, const struct given *g, const struct left *left)
+{
+    uint32_t text[32];
+    size_t count = 0;
+    if (left->refusal != PASDRONGEL_DONE || kind->output != 4 || kind->use == NO_STATE || (kind->numbers == KEY && left->state[1] == 1))
+        return;
+    calls++;
+    if (pasdrongel_text(left->state, g->state_size, text, 32, &count) != PASDRONGEL_DONE || count != left->count
+        || memcmp(text, left->output, count * sizeof *text) != 0)
+        fault(kind, "it does not write the text of what it leaves");
+}
+
+static void session(void)
+{
+    static struct given g;
+    static struct left left;
+    unsigned length = 1 + below(120);
+    typed_length = 0;
+    calls++;
+    if (pasdrongel_new(composition, STATE, below(2)) != PASDRONGEL_DONE)
+        fault(&kinds[11], "there is no new composition");
+    while (length-- > 0) {
+        const struct kind *kind = some_kind();
+        prepare(kind, &g);
+        hold(kind, &g, &left);
+        hold_text(kind, &g, &left);
+        if (left.refusal == PASDRONGEL_DONE && kind->numbers == KEY && kind->output != 0)
+            remember(g.a);
+        if (kind->use >= CHANGED && left.refusal == PASDRONGEL_DONE)
+            memcpy(composition, left.state, STATE);
+    }
+}
+
+static unsigned long from_environment(const char *name, unsigned long otherwise)
+{
+    const char *value = getenv(name);
+    return value == NULL || *value == '\0' ? otherwise : strtoul(value, NULL, 10);
+}
+
+/* Says what was met, and finds a refusal that was not. */
+static void count_refusals(void)
+{
+    size_t i;
+    unsigned r;
+    for (i = 0; i < KINDS; i++) {
+        printf("%-18s", kinds[i].name);
+        for (r = 0; r < REFUSALS; r++) {
+            if (met[i][r] > 0 && r == 0)
+                printf(" done %lu", met[i][r]);
+            else if (met[i][r] > 0)
+                printf(", %u: %lu", r, met[i][r]);
+            else if (r == 0 || kinds[i].refusals & R(r))
+                fault(&kinds[i], "the run has not met every answer that it has");
+        }
+        printf("\n");
+    }
+}
+
+int main(void)
+{
+    unsigned long seed = from_environment("SEED", 1), sessions = 1000 * from_environment("SCALE", 1);
+    random_state = (seed + 1) * 0x9e3779b97f4a7c15u;
+    lent_open(&the_state);
+    lent_open(&the_input);
+    lent_open(&the_output);
+    lent_open(&the_first);
+    lent_open(&the_second);
+    while (sessions-- > 0 && faults < MOST_SHOWN)
+        session();
+    count_refusals();
+    printf("seed %lu\n%lu calls, %lu faults\n", seed, calls, faults);
+    return faults != 0;
+}
