@@ -74,11 +74,8 @@ pub fn odd_cells() -> Vec<Cell> {
 }
 
 fn random_cell(random: &mut Random) -> Cell {
-    let base = if random.below(2) == 0 {
-        oracle::letter(random.of(alphabet())).expect("a letter")
-    } else {
-        random.of(&ODD_BASES.chars().collect::<Vec<char>>())
-    };
+    let base = if random.below(2) == 0 { random.of(alphabet()) } else { random.letter_of(ODD_BASES) };
+    let base = oracle::letter(base).expect("a letter");
     let mark = Some(base).filter(|&base| MARKS.contains(base) && random.below(2) == 0);
     let tone = TONE_KEYS.chars().nth(random.below(30));
     Cell { base, mark, tone, upper: if random.below(4) == 0 { random.below(2) == 0 } else { base.is_uppercase() } }
@@ -278,12 +275,12 @@ impl Composer<'_> {
             let count = random.below(8);
             let state = random_composition(random, count).bytes();
             let length = if random.below(4) == 0 { random.below(WORD_LETTERS + 3) } else { random.below(6) };
-            let pool = codes("aAeEoOuUdDwWsSfiyb1Ăđ");
-            let mut raw: Vec<u32> = (0..length).map(|_| random.of(&pool)).collect();
+            const POOL: &str = "aAeEoOuUdDwWsSfiyb1Ăđ";
+            let mut raw: Vec<u32> = (0..length).map(|_| random.letter_of(POOL)).collect();
             if random.below(20) == 0 && length > 0 {
                 raw[random.below(length)] = random.of(&OUTSIDE);
             }
-            let trigger = if random.below(30) == 0 { random.of(&OUTSIDE) } else { random.of(&pool) };
+            let trigger = if random.below(30) == 0 { random.of(&OUTSIDE) } else { random.letter_of(POOL) };
             self.call(&state, Call::Undo(trigger, &raw));
         }
     }
@@ -466,8 +463,8 @@ pub fn random_key(random: &mut Random) -> u32 {
     match random.below(100) {
         0 => random.of(&OUTSIDE),
         1..15 => random.of(alphabet()),
-        15..30 => random.of(&codes("AEOUIYDWSFQG")),
-        30..60 => random.of(&codes(VNI_KEYS)),
-        _ => random.of(&codes(TELEX_KEYS)),
+        15..30 => random.letter_of("AEOUIYDWSFQG"),
+        30..60 => random.letter_of(VNI_KEYS),
+        _ => random.letter_of(TELEX_KEYS),
     }
 }

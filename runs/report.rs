@@ -150,4 +150,10 @@ impl Random {
     pub fn of<T: Copy>(&mut self, choices: &[T]) -> T {
         choices[self.below(choices.len())]
     }
+
+    /// A letter of a text, as a number.
+    pub fn letter_of(&mut self, text: &str) -> u32 {
+        let place = self.below(text.chars().count());
+        text.chars().nth(place).map_or(0, u32::from)
+    }
 }

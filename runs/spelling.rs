@@ -105,7 +105,7 @@ pub fn random_word(random: &mut Random) -> Vec<u32> {
     let mut word = match random.below(4) {
         0 => listing()[random.below(listing().len())].clone(),
         1 => codes(&[random.of(&spy::onsets()), random.of(&spy::vowels()), random.of(&spy::codas())].concat()),
-        2 => (0..random.below(10)).map(|_| random.of(&codes(USEFUL))).collect(),
+        2 => (0..random.below(10)).map(|_| random.letter_of(USEFUL)).collect(),
         _ => (0..random.below(12)).map(|_| random.of(alphabet())).collect(),
     };
     for _ in 0..random.below(4) {
@@ -115,11 +115,11 @@ pub fn random_word(random: &mut Random) -> Vec<u32> {
         let place = random.below(word.len());
         let letter = oracle::letter(word[place]).expect("a letter");
         match random.below(6) {
-            0 | 1 => word[place] = tone_on(word[place], random.of(&codes(TONE_KEYS))).expect("a letter and a tone"),
+            0 | 1 => word[place] = tone_on(word[place], random.letter_of(TONE_KEYS)).expect("a letter and a tone"),
             2 => word[place] = upper(letter),
             3 => word[place] = lower(letter),
-            4 => word[place] = random.of(&codes(USEFUL)),
-            _ => word.insert(place, random.of(&codes(USEFUL))),
+            4 => word[place] = random.letter_of(USEFUL),
+            _ => word.insert(place, random.letter_of(USEFUL)),
         }
     }
     word
