@@ -1,9 +1,9 @@
 //! The composer: every call on a composition against the Rust's engine, on the bytes that C lends. Each comparison is of
 //! one call: the number that it returns, the whole lent output, and every byte of the composition.
 
-use crate::composition::{show_bytes, Call, Composition, Left, Oracle, State, CELLS, MOST_BYTES, ROOM, SIZE};
+use crate::composition::{answered, show_bytes, Call, Composition, Left, Oracle, State, CELLS, MOST_BYTES, ROOM, SIZE};
 use crate::engine::bamboo::spy::Cell;
-use crate::engine::bamboo::Mode;
+use crate::engine::bamboo::{BambooEngine, Mode};
 use crate::input_method::InputMethod::{self, Telex, Vni};
 use crate::oracle::{self, alphabet, MARKS, TONE_KEYS, WORD_LETTERS};
 use crate::report::{Random, Run};
@@ -12,6 +12,19 @@ use crate::session;
 /// The keys that compose under each method, and letters that its steps look at or pass over.
 const TELEX_KEYS: &str = "aeouiydwsfrxjqgnb .";
 const VNI_KEYS: &str = "aeouiyd678912345qgnb .";
+
+/// Strings of keys: the method, its name, the keys, and the most of them.
+const SHORT_STRINGS: [(InputMethod, &str, &str, usize); 4] = [
+    (Telex, "Telex", TELEX_KEYS, 4),
+    (Vni, "VNI", VNI_KEYS, 4),
+    (Telex, "Telex", "aAoOuUwWsSdDqb.", 5),
+    (Vni, "VNI", "aAoOuUdD6789q1.", 5),
+];
+const LONG_STRINGS: [(InputMethod, &str, &str, usize); 3] = [
+    (Telex, "Telex", "aeoudwsfrxjb", 6),
+    (Telex, "Telex", "aeouiywsqgb ", 6),
+    (Vni, "VNI", "aeoud678912345b", 6),
+];
 
 /// Numbers that are no letter: just outside the alphabet, and far from it.
 const OUTSIDE: [u32; 9] = [0x80, 0xff, 0x104, 0x300, 0x1efa, 0xd800, 0x110000, 0x80000061, 0xffffffff];
@@ -25,16 +38,18 @@ pub fn fixed() -> Vec<String> {
 
 pub fn compare(run: &mut Run) {
     let mut composer = Composer { run, oracle: Oracle::new() };
-    composer.strings();
+    composer.strings(&SHORT_STRINGS);
     composer.reaches();
-    composer.pairs();
-    composer.handed_in();
-    composer.undo();
-    composer.rooms();
     composer.full();
-    composer.unsound();
     composer.orders();
+    composer.undo();
+    composer.handed_in();
+    composer.rooms();
+    composer.unsound();
+    composer.pairs();
     composer.sessions();
+    composer.one_engine();
+    composer.strings(&LONG_STRINGS);
 }
 
 pub fn codes(text: &str) -> Vec<u32> {
@@ -128,15 +143,8 @@ impl Composer<'_> {
         }
     }
 
-    fn strings(&mut self) {
-        for (method, name, keys, length) in [
-            (Telex, "Telex", "aeouidwsqgb ", 6),
-            (Vni, "VNI", "aeoud67891b ", 6),
-            (Telex, "Telex", "aAoOuUwWsSdDqb.", 5),
-            (Vni, "VNI", "aAoOuUdD6789q1.", 5),
-            (Telex, "Telex", TELEX_KEYS, 4),
-            (Vni, "VNI", VNI_KEYS, 4),
-        ] {
+    fn strings(&mut self, kinds: &[(InputMethod, &str, &str, usize)]) {
+        for &(method, name, keys, length) in kinds {
             self.run.begin(&format!("key: every {name} string of up to {length} over `{keys}`"));
             self.extend(&appended(method, ""), &codes(keys), length);
         }
@@ -253,6 +261,13 @@ impl Composer<'_> {
         .iter()
         .map(|cells: &Vec<Cell>| handed(Telex, cells).bytes())
         .collect();
+        self.run.begin("undo: every letter as trigger, raw strings that end in it");
+        for &trigger in alphabet() {
+            for state in &stands {
+                self.call(state, Call::Undo(trigger, &[trigger]));
+                self.call(state, Call::Undo(trigger, &[0x61, 0x77, trigger]));
+            }
+        }
         let triggers = codes("aeoudwsf1\0AWD");
         self.run.begin(&format!("undo: every raw string of up to 5 over `{MARKING}`, each trigger, typed and handed in"));
         let mut raws = vec![vec![]];
@@ -453,6 +468,34 @@ impl Composer<'_> {
                     _ => {}
                 }
                 self.call(&state, Call::Text(ROOM));
+            }
+        }
+    }
+}
+
+impl Composer<'_> {
+    /// One engine of the Rust through a whole session, with nothing handed in: what it keeps beside the cells is seen so.
+    fn one_engine(&mut self) {
+        self.run.begin("key, literal, remove_last, undo, reset: sessions of up to 130 calls on one engine of the Rust");
+        for _ in self.run.times(2_000) {
+            let method = self.run.random().of(&[Telex, Vni]);
+            let (mut engine, mut state) = (BambooEngine::new(method), appended(method, ""));
+            let mut raw: Vec<u32> = Vec::new();
+            for _ in 0..1 + self.run.random().below(130) {
+                let full = usize::from(state[2]) == CELLS;
+                let (kind, key) = (self.run.random().below(100), random_key(self.run.random()));
+                let call = match kind {
+                    0..90 if !full => Call::Key(key, ROOM),
+                    90..93 if !full => Call::Literal(key),
+                    93..96 => Call::RemoveLast(ROOM),
+                    96..99 => Call::Undo(key, &raw[raw.len().saturating_sub(WORD_LETTERS)..]),
+                    _ => Call::Reset,
+                };
+                let (ours, theirs) = (Left::of(&state, call), Left::by(&state, answered(&mut engine, call)));
+                let size = || state.iter().map(|&byte| byte.into()).collect();
+                self.run.compare(call.name(), &ours, &theirs, size, || format!("{call:?}; on {}", show_bytes(&state)));
+                state = theirs.state();
+                raw.push(key);
             }
         }
     }

@@ -156,7 +156,7 @@ fn read_cell(bytes: &[u8]) -> Option<Cell> {
 }
 
 /// What a call answers that is done: the composition after it, and what it gives.
-struct Done {
+pub struct Done {
     composition: Composition,
     text: Option<Vec<u32>>,
     behaviour: Option<u32>,
@@ -175,67 +175,61 @@ impl Oracle {
 
     /// What the call leaves, on any bytes.
     pub fn left(&mut self, state: &[u8], call: Call) -> Left {
-        let mut left = Left::before(state);
-        match self.answer(state, call) {
-            Err(refusal) => left.refusal = refusal,
-            Ok(done) => {
-                left.state[MARGIN..MARGIN + SIZE].copy_from_slice(&done.composition.bytes());
-                left.behaviour = done.behaviour.unwrap_or(GUARD);
-                if let Some(text) = done.text {
-                    left.count = text.len();
-                    left.output[MARGIN..MARGIN + text.len()].copy_from_slice(&text);
-                }
-            }
-        }
-        left
+        Left::by(state, self.answer(state, call))
     }
 
-    /// Document 01's refusals stand around the engine's own answer, in their order: 10, 6, 1, then 2, 4 or 5, last 3.
+    /// Document 01's refusals in their order: 10 here, then 6, 1, then 2, 4 or 5, last 3.
     fn answer(&mut self, state: &[u8], call: Call) -> Result<Done, u32> {
         if let Call::New(method) = call {
             let method = method_of(method).filter(|_| state.len() == SIZE).ok_or(UNSOUND)?;
             return Ok(Done { composition: Composition::new(method), text: None, behaviour: None });
         }
         let before = Composition::read(state).ok_or(UNSOUND)?;
+        if let Call::SetMethod(method) = call {
+            method_of(method).ok_or(UNSOUND)?;
+            let mut other = BambooEngine::new(before.method);
+            spy::hand_in(&mut other, &before.cells, before.mode);
+            return answered(&mut other, call);
+        }
         let engine = if before.method == InputMethod::Telex { &mut self.telex } else { &mut self.vni };
         spy::hand_in(engine, &before.cells, before.mode);
-        let (mut text, mut behaviour) = (None, None);
-        match call {
-            Call::Key(key, room) => {
-                let written = engine.process_key(oracle::letter(key)?).expect("a key is answered by a text");
-                text = Some((written, room));
-            }
-            Call::Literal(letter) => engine.append_literal(oracle::letter(letter)?),
-            Call::Text(room) => text = Some((engine.get_output(), room)),
-            Call::RemoveLast(room) => text = Some((engine.pop_last().ok_or(EMPTY)?, room)),
-            Call::Reset => engine.reset(),
-            Call::SetMethod(method) => {
-                let mut other = BambooEngine::new(before.method);
-                spy::hand_in(&mut other, &before.cells, before.mode);
-                other.set_method(method_of(method).ok_or(UNSOUND)?);
-                return Ok(Done { composition: composition_of(&other), text: None, behaviour: None });
-            }
-            Call::SetMode(mode) => engine.set_enabled(mode_of(mode).ok_or(UNSOUND)? == Mode::Vietnamese),
-            Call::Undo(trigger, raw) => {
-                if raw.len() > WORD_LETTERS {
-                    return Err(LONG);
-                }
-                let trigger = oracle::letter(trigger)?;
-                let raw = raw.iter().map(|&key| oracle::letter(key)).collect::<Result<String, u32>>()?;
-                behaviour = Some(match engine.undo_telex_transform(trigger, &raw).ok_or(NO_UNDO)? {
-                    TelexUndo::AppendTrigger => 0,
-                    TelexUndo::ConsumeTrigger => 1,
-                });
-            }
-            Call::CompositionOk | Call::New(_) => {}
-        }
-        let composition = composition_of(engine);
-        if composition.cells.len() > CELLS {
-            return Err(FULL);
-        }
-        let text = text.map(|(text, room)| fitting(&text, room)).transpose()?;
-        Ok(Done { composition, text, behaviour })
+        answered(engine, call)
     }
+}
+
+/// What an engine answers as it stands, with 01's refusals around it.
+pub fn answered(engine: &mut BambooEngine, call: Call) -> Result<Done, u32> {
+    let (mut text, mut behaviour) = (None, None);
+    match call {
+        Call::Key(key, room) => {
+            let written = engine.process_key(oracle::letter(key)?).expect("a key is answered by a text");
+            text = Some((written, room));
+        }
+        Call::Literal(letter) => engine.append_literal(oracle::letter(letter)?),
+        Call::Text(room) => text = Some((engine.get_output(), room)),
+        Call::RemoveLast(room) => text = Some((engine.pop_last().ok_or(EMPTY)?, room)),
+        Call::Reset => engine.reset(),
+        Call::SetMethod(method) => engine.set_method(method_of(method).ok_or(UNSOUND)?),
+        Call::SetMode(mode) => engine.set_enabled(mode_of(mode).ok_or(UNSOUND)? == Mode::Vietnamese),
+        Call::Undo(trigger, raw) => {
+            if raw.len() > WORD_LETTERS {
+                return Err(LONG);
+            }
+            let trigger = oracle::letter(trigger)?;
+            let raw = raw.iter().map(|&key| oracle::letter(key)).collect::<Result<String, u32>>()?;
+            behaviour = Some(match engine.undo_telex_transform(trigger, &raw).ok_or(NO_UNDO)? {
+                TelexUndo::AppendTrigger => 0,
+                TelexUndo::ConsumeTrigger => 1,
+            });
+        }
+        Call::CompositionOk | Call::New(_) => {}
+    }
+    let composition = composition_of(engine);
+    if composition.cells.len() > CELLS {
+        return Err(FULL);
+    }
+    let text = text.map(|(text, room)| fitting(&text, room)).transpose()?;
+    Ok(Done { composition, text, behaviour })
 }
 
 fn composition_of(engine: &BambooEngine) -> Composition {
@@ -265,6 +259,23 @@ impl Left {
         state[MARGIN..MARGIN + bytes.len()].copy_from_slice(bytes);
         let output = [GUARD; ROOM + 2 * MARGIN];
         Left { refusal: 0, count: GUARD_COUNT, behaviour: GUARD, output, length: bytes.len(), state }
+    }
+
+    /// What a call must leave: its answer, or after a refusal all as it was.
+    pub fn by(bytes: &[u8], answer: Result<Done, u32>) -> Left {
+        let mut left = Left::before(bytes);
+        match answer {
+            Err(refusal) => left.refusal = refusal,
+            Ok(done) => {
+                left.state[MARGIN..MARGIN + SIZE].copy_from_slice(&done.composition.bytes());
+                left.behaviour = done.behaviour.unwrap_or(GUARD);
+                if let Some(text) = done.text {
+                    left.count = text.len();
+                    left.output[MARGIN..MARGIN + text.len()].copy_from_slice(&text);
+                }
+            }
+        }
+        left
     }
 
     /// What the C call leaves.
