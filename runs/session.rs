@@ -179,7 +179,8 @@ fn rules() -> Vec<String> {
     lines
 }
 
-/// The tone's place: every vowels of the rows, after no onset, one letter, q u and g i, and in a later syllable.
+/// The tone's place: the vowels of the rows, after no onset, one letter, q u and g i, and in a later syllable; then pairs whose
+/// last vowel takes it, and pairs whose first does.
 fn tones() -> Vec<String> {
     let mut lines = Vec::new();
     for vowels in spelling::spy::vowels() {
@@ -187,6 +188,12 @@ fn tones() -> Vec<String> {
             lines.push(typed(Telex, &[onset, vowels, "ns"].concat()));
         }
         lines.push(typed(Vni, &["Th", vowels, "5"].concat()));
+    }
+    for pair in ["oa", "oe", "uy", "iê", "yê", "uô", "ươ", "io", "uâ", "uê", "uơ", "ao", "ia", "eo", "ưa", "ơu"] {
+        for keys in ["", "b", "gi", "dgi", "bqu", "Q"] {
+            lines.push(typed(Telex, &[keys, pair, "f"].concat()));
+            lines.push(typed(Telex, &[keys, &pair.to_ascii_uppercase(), "nj"].concat()));
+        }
     }
     for keys in ["bs", "s", "a s", "a b", "a bs", "b s", "a,bcs", "GIas", "QUas", "gis", "qus", "aeious", "Aas", "ầs", "Ăs", "âs"] {
         lines.push(typed(Telex, keys));

@@ -226,11 +226,13 @@ pub fn fixed() -> Vec<String> {
     }
     for foreign in FOREIGN {
         read(foreign.to_string().as_bytes(), 2);
+        read(foreign.to_string().as_bytes(), 0);
         MALFORMED.iter().for_each(|bytes| read(&[foreign.to_string().as_bytes(), bytes].concat(), 4));
         MALFORMED.iter().for_each(|bytes| read(&[bytes, foreign.to_string().as_bytes()].concat(), 4));
     }
     for bytes in MALFORMED {
         read(bytes, 4);
+        read(bytes, 0);
         read(&[b"a", bytes].concat(), 4);
         read(&[bytes, &b"a"[..]].concat(), 4);
     }
