@@ -4,12 +4,41 @@ use mathlib.Core.Path.{_≡_, refl, sym, ap, _∙_}
 use mathlib.Core.List.{List}
 use native.Mathlib.Omega.{arith}
 use lib.ListN.{length}
-use Rattle.p0_choice.proofs.Choices.{picks, pick-not-lt}
+use Rattle.p0_choice.proofs.Choices.{picks}
 use Rattle.p0_refusals.specs.declared.Refusal.{Refusal}
 use Rattle.p0_refusals.specs.declared.Refusal.the-variants.{Short}
 use Rattle.p0_refusals.specs.Answers.{Outcome, writes, refuses, content, counted, answer, onto, output}
 use Rattle.p0_refusals.specs.declared.Answer.{Answer}
 use Rattle.p0_refusals.specs.declared.Answer.the-variants.{Done, Refused}
+
+-- ---- a call, given what it has to write
+module _ (w : Outcome) (r : Refusal) (q : w ≡ refuses r) where
+  pub refuses-answer : (n : ℕ) → Refused r ≡ answer w n
+  unfolding answer
+  refuses-answer n = rw q refl
+
+  pub refuses-output : (o : List ℕ) → o ≡ output w o
+  unfolding output
+  refuses-output o = rw (← refuses-answer (length o)) refl
+
+module _ (w : Outcome) (xs : List ℕ) (q : w ≡ writes xs) where
+  pub short-answer : (n : ℕ) → n < length xs → Refused Short ≡ answer w n
+  unfolding answer
+  short-answer n h = rw q (search picks)
+
+  pub short-output : (o : List ℕ) → length o < length xs → o ≡ output w o
+  unfolding output
+  short-output o h = rw (← short-answer (length o) h) refl
+
+  pub writes-answer : (n k : ℕ) → length xs ≤ n → k ≡ length xs → Done k ≡ answer w n
+  unfolding answer
+  writes-answer n k h e = rw (q, e) (search picks)
+
+  pub writes-output : (o out : List ℕ) → length xs ≤ length o → out ≡ onto xs o → out ≡ output w o
+  unfolding output content
+  writes-output o out h f = rw (← writes-answer (length o) (length xs) h refl, q) f
+
+pub ruleset outcome = (refuses-answer, refuses-output, short-answer, short-output, writes-answer, writes-output)
 
 -- the count is there exactly if there is something to write
 pub counts : (u : Outcome) (n : ℕ) → counted u ≡ Done n → (u ≡ writes (content u)) × (n ≡ length (content u))
@@ -24,39 +53,34 @@ refused (refuses q) r e = let k : q ≡ r = cc in ap refuses k
 
 -- ---- a call, given its count v
 module _ (u : Outcome) (v : Answer) (e : v ≡ counted u) where
-  pub call-refused : (r : Refusal) (m : ℕ) → v ≡ Refused r → Refused r ≡ answer u m
-  unfolding answer
-  call-refused r m q = rw (refused u r (sym e ∙ q)) refl
+  module _ (r : Refusal) (q : v ≡ Refused r) where
+    pub call-refused : (m : ℕ) → Refused r ≡ answer u m
+    call-refused m = refuses-answer u r (refused u r (sym e ∙ q)) m
 
-  pub kept-refused : (r : Refusal) (o : List ℕ) → v ≡ Refused r → o ≡ output u o
-  unfolding output
-  kept-refused r o q = rw (refused u r (sym e ∙ q)) refl
+    pub kept-refused : (o : List ℕ) → o ≡ output u o
+    kept-refused o = refuses-output u r (refused u r (sym e ∙ q)) o
 
   module _ (n : ℕ) (q : v ≡ Done n) where
     pub call-writes : u ≡ writes (content u)
     call-writes = counts u n (sym e ∙ q) .0
 
+    count : n ≡ length (content u)
+    count = counts u n (sym e ∙ q) .1
+
     pub call-room : (m : ℕ) → n ≤ m → length (content u) ≤ m
-    call-room m h = let k = counts u n (sym e ∙ q) in omega arith
+    call-room m h = omega (arith, count)
 
     pub call-short : (m : ℕ) → m < n → Refused Short ≡ answer u m
-    unfolding answer
-    call-short m h = let k = counts u n (sym e ∙ q) in rw (k .0, ← k .1) (search picks)
+    call-short m h = short-answer u (content u) call-writes m (omega (arith, count))
 
     pub kept-short : (o : List ℕ) → length o < n → o ≡ output u o
-    unfolding output
-    kept-short o h = let k = counts u n (sym e ∙ q) in rw (k .0, ← k .1) (search picks)
+    kept-short o h = short-output u (content u) call-writes o (omega (arith, count))
 
     pub call-done : (m : ℕ) → n ≤ m → Done n ≡ answer u m
-    unfolding answer
-    call-done m h = let k = counts u n (sym e ∙ q) in rw (k .0, ← k .1) (search picks)
+    call-done m h = writes-answer u (content u) call-writes m n (call-room m h) count
 
     pub output-done : (o out : List ℕ) → n ≤ length o → out ≡ onto (content u) o → out ≡ output u o
-    unfolding output
-    output-done o out h f =
-        let k = counts u n (sym e ∙ q) in
-        let m : length (content u) ≤ length o = omega arith in
-        rw (k .0) (pick-not-lt _ _ _ _ _ m f)
+    output-done o out h f = writes-output u (content u) call-writes o out (call-room (length o) h) f
 
 -- every way out of a call but what it lends to the function that writes, and what that leaves
 pub ruleset call = (call-refused, kept-refused, call-short, kept-short, call-done)

@@ -41,11 +41,15 @@ unfoldable pub answer : Outcome → ℕ → Answer
 answer (writes xs) room = pick (ltb room (length xs)) (Refused Short) (Done (length xs))
 answer (refuses r) room = Refused r
 
+-- "A refusal returns its number; the composition and lent outputs stay as they were": the old, or the new if the call is done.
+abbrev pub unless : {A : Type 0} → Answer → A → A → A
+unless (Done n) old new = new
+unless (Refused r) old new = old
+
 -- "An answer is written from the start of the output; the rest of it keeps its values."
 abbrev pub onto : List ℕ → List ℕ → List ℕ
 onto xs o = xs ++ drop (length xs) o
 
--- The lent output at the end. "A refusal returns its number; .. lent outputs stay as they were."
+-- The lent output at the end.
 unfoldable pub output : Outcome → List ℕ → List ℕ
-output (writes xs) o = pick (ltb (length o) (length xs)) o (onto xs o)
-output (refuses r) o = o
+output w o = unless (answer w (length o)) o (onto (content w) o)

@@ -2,37 +2,31 @@
 use Prim.Native.Nat.{ℕ, _<_, _≤_, _-_}
 use mathlib.Core.Path.{_≡_, refl}
 use mathlib.Core.Bool.{Bool, true, false}
-use mathlib.Core.List.{List, [], _∷_, _++_}
+use mathlib.Core.List.{[], _∷_, _++_}
 use native.Mathlib.Omega.{arith}
 use lib.Dec.{ltb}
 use lib.ListN.{length, take, length-append}
 use lib.Seq.{length-take-le}
 use borrow.Author.Tests.{ltb-true}
 use Rattle.p0_choice.specs.Choice.{pick}
+use Rattle.p0_refusals.specs.Answers.{writes, refuses, answer}
+use Rattle.p0_refusals.specs.declared.Answer.the-variants.{Done}
 use Rattle.p0_refusals.specs.declared.Refusal.the-variants.{Foreign, Full, Unsound}
 use Rattle.p1_letters.specs.Alphabet.{inAlphabet}
 use Rattle.p2_input_method.specs.declared.InputMethod.{InputMethod}
 use Rattle.p3_cells.specs.Cells.{limit, isBlank, typed, isCell, fitsAt, isSound, used, holding}
-use Rattle.p3_cells.specs.Written.{unless}
 use Rattle.p3_cells.specs.declared.Composition.{Composition}
 use Rattle.p3_cells.specs.declared.Mode.{Mode}
-use Rattle.p3_cells.specs.declared.Written.{Written}
-use Rattle.p3_cells.specs.declared.Written.the-variants.{Wrote}
-use Rattle.p3_cells.specs.declared.Written.the-variants.{Refused as Refuse}
 use Rattle.p3_cells.proofs.Tests.{each-append, each-take}
 use Rattle.p3_cells.proofs.Made.{typed-cell}
+use Rattle.p3_cells.proofs.Leaving.{changed-keeps}
 use Rattle.p3_cells.proofs.Holding.{count-fits, used-length, used-cells, holding-sound}
-use Rattle.p3_calls.specs.Answer.{changed}
-use Rattle.p3_calls.specs.Settings.{empty, created, soundAnswer, resetTo, methodSet, turned, enabledSet}
-use Rattle.p3_calls.specs.Literal.{literalAnswer, literal}
-use Rattle.p3_calls.specs.Output.{left, popAnswer, popped}
-use Rattle.p3_calls.specs.declared.Answer.{Answer}
-use Rattle.p3_calls.specs.declared.Answer.the-variants.{Done, Refused}
+use Rattle.p3_calls.specs.Settings.{empty, created, settled, resetTo, methodSet, turned, enabledSet}
+use Rattle.p3_calls.specs.Literal.{literalOutcome, literal}
+use Rattle.p3_calls.specs.Output.{left, popOutcome, popped}
 
-changed-sound : (a : Answer) (c d : Composition) → isSound c ≡ true → (a ≡ Done → isSound d ≡ true) → isSound (changed a c d .comp) ≡ true
-unfolding changed
-changed-sound Done c d s f = f refl
-changed-sound (Refused r) c d s f = s
+abbrev Sound : Composition → Type 0
+Sound c = isSound c ≡ true
 
 -- ---- a new composition, the reset and the settings
 empty-sound : (m : InputMethod) (mode : Mode) → isSound (empty m mode) ≡ true
@@ -46,11 +40,11 @@ new-sound m = empty-sound m _
 module _ (c : Composition) (s : isSound c ≡ true) where
   pub reset-sound : isSound (resetTo c .comp) ≡ true
   unfolding resetTo
-  reset-sound = changed-sound (soundAnswer c) c _ s (λ e. empty-sound (c .method) (c .mode))
+  reset-sound = changed-keeps Sound (answer (settled c) 0) c _ s (λ k e. empty-sound (c .method) (c .mode))
 
   pub set-method-sound : (m : InputMethod) → isSound (methodSet c m .comp) ≡ true
   unfolding methodSet
-  set-method-sound m = changed-sound (soundAnswer c) c _ s (λ e. empty-sound m (c .mode))
+  set-method-sound m = changed-keeps Sound (answer (settled c) 0) c _ s (λ k e. empty-sound m (c .mode))
 
   turned-sound : (on : Bool) → isSound (turned c on) ≡ true
   unfolding turned isSound
@@ -59,16 +53,16 @@ module _ (c : Composition) (s : isSound c ≡ true) where
 
   pub set-enabled-sound : (on : Bool) → isSound (enabledSet c on .comp) ≡ true
   unfolding enabledSet
-  set-enabled-sound on = changed-sound (soundAnswer c) c _ s (λ e. turned-sound on)
+  set-enabled-sound on = changed-keeps Sound (answer (settled c) 0) c _ s (λ k e. turned-sound on)
 
   module _ (n : length (c .cells) ≡ limit) where
     -- ---- the literal
-    fits : (ch : ℕ) → literalAnswer c ch ≡ Done → (inAlphabet ch ≡ true) × (length (used c) < limit)
-    unfolding literalAnswer
-    fits ch e = go (isSound c) (inAlphabet ch) (ltb (length (used c)) limit) refl refl e
+    fits : (ch k : ℕ) → answer (literalOutcome c ch) 0 ≡ Done k → (inAlphabet ch ≡ true) × (length (used c) < limit)
+    unfolding literalOutcome answer
+    fits ch k e = go (isSound c) (inAlphabet ch) (ltb (length (used c)) limit) refl refl e
       where
         go : (a b d : Bool) → inAlphabet ch ≡ b → ltb (length (used c)) limit ≡ d
-            → pick a (pick b (pick d Done (Refused Full)) (Refused Foreign)) (Refused Unsound) ≡ Done → (inAlphabet ch ≡ true) × (length (used c) < limit)
+            → answer (pick a (pick b (pick d (writes []) (refuses Full)) (refuses Foreign)) (refuses Unsound)) 0 ≡ Done k → (inAlphabet ch ≡ true) × (length (used c) < limit)
         go true true true p q h = (p, ltb-true (length (used c)) limit q)
         go true true false p q h = let z : _≡_ {A = ℕ} 0 1 = cc in absurd (omega arith)
         go true false d p q h = let z : _≡_ {A = ℕ} 0 1 = cc in absurd (omega arith)
@@ -77,19 +71,16 @@ module _ (c : Composition) (s : isSound c ≡ true) where
     pub literal-sound : (ch : ℕ) → isSound (literal c ch .comp) ≡ true
     unfolding literal
     literal-sound ch =
-        changed-sound (literalAnswer c ch) c _ s
-        (λ e. let f = fits ch e in
+        changed-keeps Sound (answer (literalOutcome c ch) 0) c _ s
+        (λ k e. let f = fits ch k e in
         holding-sound c (used c ++ (typed ch ∷ [])) (rw length-append (omega arith)) (each-append isCell (used c) (typed ch) (used-cells c s n) (typed-cell ch (f .0))))
 
     -- ---- the removal
-    pub pop-sound : (out : List ℕ) → isSound (popped c out .comp) ≡ true
+    pub pop-sound : (m : ℕ) → isSound (popped c m .comp) ≡ true
     unfolding popped left
-    pop-sound out = go (popAnswer c (length out))
-      where
-        go : (w : Written) → isSound (unless w c (holding c (left c))) ≡ true
-        go (Wrote k) =
-            let u = used-length c s n in
-            let f = count-fits c s in
-            let l : length (take (length (used c) - 1) (used c)) ≤ limit = rw (length-take-le (length (used c) - 1) (used c) (omega arith)) (omega arith) in
-            holding-sound c (left c) l (each-take isCell (length (used c) - 1) (used c) (used-cells c s n))
-        go (Refuse r) = s
+    pop-sound m =
+        let u = used-length c s n in
+        let f = count-fits c s in
+        let l : length (take (length (used c) - 1) (used c)) ≤ limit = rw (length-take-le (length (used c) - 1) (used c) (omega arith)) (omega arith) in
+        changed-keeps Sound (answer (popOutcome c) m) c _ s
+        (λ k e. holding-sound c (left c) l (each-take isCell (length (used c) - 1) (used c) (used-cells c s n)))

@@ -1,25 +1,24 @@
 -- Each way through the reset and the settings.
 use mathlib.Core.Path.{_≡_, refl}
 use mathlib.Core.Bool.{Bool, true, false, not}
+use mathlib.Core.List.{[]}
 use borrow.Author.Tests.{not-true, not-false}
 use Rattle.p0_choice.proofs.Choices.{pick-true, pick-false}
+use Rattle.p0_refusals.specs.Answers.{writes, refuses}
 use Rattle.p0_refusals.specs.declared.Refusal.the-variants.{Unsound}
 use Rattle.p3_cells.specs.Cells.{isSound}
 use Rattle.p3_cells.specs.declared.Composition.{Composition}
 use Rattle.p3_cells.specs.declared.Mode.the-variants.{Vietnamese, English}
-use Rattle.p3_calls.specs.Answer.{refused, changed}
-use Rattle.p3_calls.specs.Settings.{empty, soundAnswer, turned}
-use Rattle.p3_calls.specs.declared.Answer.the-variants.{Done}
-use Rattle.p3_calls.specs.declared.Changed.{Changed}
+use Rattle.p3_calls.specs.Settings.{empty, settled, turned}
 
-module _ (c d : Composition) (s : Bool) (e : s ≡ isSound c) where
-  pub set-unsound : (r : Changed) → not s ≡ true → r ≡ refused c Unsound → r ≡ changed (soundAnswer c) c d
-  unfolding changed soundAnswer
-  set-unsound r h q = rw (← e, not-true s h) q
+module _ (c : Composition) (s : Bool) (e : s ≡ isSound c) where
+  pub set-unsound : not s ≡ true → settled c ≡ refuses Unsound
+  unfolding settled
+  set-unsound h = rw (← e, not-true s h) refl
 
-  pub set-done : (r : Composition) → not s ≡ false → r ≡ d → record { comp = r; answer = Done } ≡ changed (soundAnswer c) c d
-  unfolding changed soundAnswer
-  set-done r h q = rw (← e, not-false s h, q) refl
+  pub set-done : not s ≡ false → settled c ≡ writes []
+  unfolding settled
+  set-done h = rw (← e, not-false s h) refl
 
 pub turned-off : (c r : Composition) (on : Bool) → not on ≡ true → r ≡ empty (c .method) English → r ≡ turned c on
 unfolding turned

@@ -1,4 +1,3 @@
-pub mod Answer
 pub mod Settings
 pub mod Literal
 pub mod Output

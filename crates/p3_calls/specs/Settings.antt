@@ -1,17 +1,17 @@
--- Document 01: a new composition, the reset and the settings. Each refuses a composition that is not sound, by 10, and has
--- no other refusal.
+-- Document 01: a new composition, the reset and the settings. They "write nothing"; each refuses a composition that is not
+-- sound, by 10, and has no other refusal.
 use mathlib.Core.Bool.{Bool}
+use mathlib.Core.List.{[]}
 use Rattle.p0_choice.specs.Choice.{pick}
+use Rattle.p0_refusals.specs.Answers.{Outcome, writes, refuses, answer}
 use Rattle.p0_refusals.specs.declared.Refusal.the-variants.{Unsound}
 use Rattle.p2_input_method.specs.declared.InputMethod.{InputMethod}
 use Rattle.p3_cells.specs.Cells.{limit, blanks, isSound}
 use Rattle.p3_cells.specs.declared.Composition.{Composition}
 use Rattle.p3_cells.specs.declared.Mode.{Mode}
 use Rattle.p3_cells.specs.declared.Mode.the-variants.{Vietnamese, English}
-use Rattle.p3_calls.specs.Answer.{changed}
-use Rattle.p3_calls.specs.declared.Answer.{Answer}
-use Rattle.p3_calls.specs.declared.Answer.the-variants.{Done, Refused}
-use Rattle.p3_calls.specs.declared.Changed.{Changed}
+use Rattle.p3_cells.specs.Leaving.{changed}
+use Rattle.p3_cells.specs.declared.Changed.{Changed}
 
 -- no cells
 unfoldable pub empty : InputMethod → Mode → Composition
@@ -21,16 +21,16 @@ unfoldable pub created : InputMethod → Composition
 created m = empty m Vietnamese
 
 -- "10: composition not sound"
-unfoldable pub soundAnswer : Composition → Answer
-soundAnswer c = pick (isSound c) Done (Refused Unsound)
+unfoldable pub settled : Composition → Outcome
+settled c = pick (isSound c) (writes []) (refuses Unsound)
 
 -- "A reset empties the cells and keeps all else"
 unfoldable pub resetTo : Composition → Changed
-resetTo c = changed (soundAnswer c) c (empty (c .method) (c .mode))
+resetTo c = changed (answer (settled c) 0) c (empty (c .method) (c .mode))
 
 -- "setting the method empties them and keeps the mode"
 unfoldable pub methodSet : Composition → InputMethod → Changed
-methodSet c m = changed (soundAnswer c) c (empty m (c .mode))
+methodSet c m = changed (answer (settled c) 0) c (empty m (c .mode))
 
 -- "Turning to English empties them, always; turning to Vietnamese empties nothing."
 unfoldable pub turned : Composition → Bool → Composition
@@ -38,4 +38,4 @@ turned c on =
     pick on (record { cells = c .cells; method = c .method; mode = Vietnamese; count = c .count }) (empty (c .method) English)
 
 unfoldable pub enabledSet : Composition → Bool → Changed
-enabledSet c on = changed (soundAnswer c) c (turned c on)
+enabledSet c on = changed (answer (settled c) 0) c (turned c on)

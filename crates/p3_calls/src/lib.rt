@@ -2,34 +2,20 @@
 // is not sound; after a refusal the composition and the output are what they were.
 ghost use mathlib.Core.Path.{_≡_};
 ghost use lib.ListN.{length};
-ghost use Rattle.p3_calls.specs.Answer.{refused};
+ghost use Rattle.p0_refusals.specs.Answers.{answer, output};
+ghost use Rattle.p3_cells.specs.Leaving.{refused};
 ghost use Rattle.p3_calls.specs.Settings.{empty as emptyOf, created, resetTo, methodSet, enabledSet};
 ghost use Rattle.p3_calls.specs.Literal.{literal};
-ghost use Rattle.p3_calls.specs.Output.{textAnswer, textOut, popRefused, popped, popOut};
+ghost use Rattle.p3_calls.specs.Output.{textOutcome, popOutcome, popped};
+use p0_refusals::Answer;
 use p0_refusals::Refusal;
 use p1_letters as letters;
 use p2_input_method::InputMethod;
 use p3_cells as cells;
+use p3_cells::Changed;
 use p3_cells::Composition;
 use p3_cells::LIMIT;
 use p3_cells::Mode;
-use p3_cells::Written;
-
-// What a call that writes nothing answers.
-pub enum Answer {
-    Done,
-    Refused(Refusal),
-}
-
-pub struct Changed {
-    pub comp: Composition,
-    pub answer: Answer,
-}
-
-pub struct Popped {
-    pub comp: Composition,
-    pub answer: Written,
-}
 
 fn refuse(c: Composition, why: Refusal) -> Changed
     ensures { λ r. ⌜ r ≡ refused c why ⌝ }
@@ -70,7 +56,7 @@ pub fn reset(c: Composition) -> Changed
     let d = empty(m, mode);
     Changed {
         comp: d,
-        answer: Answer::Done,
+        answer: Answer::Done(0),
     }
 }
 
@@ -84,7 +70,7 @@ pub fn set_method(c: Composition, method: InputMethod) -> Changed
     let d = empty(method, mode);
     Changed {
         comp: d,
-        answer: Answer::Done,
+        answer: Answer::Done(0),
     }
 }
 
@@ -100,7 +86,7 @@ pub fn set_enabled(c: Composition, enabled: bool) -> Changed
         let d = empty(m, Mode::English);
         return Changed {
             comp: d,
-            answer: Answer::Done,
+            answer: Answer::Done(0),
         };
     }
     let cs = c.cells;
@@ -113,7 +99,7 @@ pub fn set_enabled(c: Composition, enabled: bool) -> Changed
     };
     Changed {
         comp: d,
-        answer: Answer::Done,
+        answer: Answer::Done(0),
     }
 }
 
@@ -135,52 +121,43 @@ pub fn append_literal(mut c: Composition, ch: u32) -> Changed
     c.count = n + 1;
     Changed {
         comp: c,
-        answer: Answer::Done,
+        answer: Answer::Done(0),
     }
 }
 
-pub fn get_output(c: Composition, out: &mut [u32]) -> Written
-    ensures { λ r. ⌜ (r ≡ textAnswer c (length (now (out .entry)))) × (now (out .exit) ≡ textOut c (now (out .entry))) ⌝ }
+pub fn get_output(c: Composition, out: &mut [u32]) -> Answer
+    ensures { λ r. ⌜ (r ≡ answer (textOutcome c) (length (now (out .entry)))) × (now (out .exit) ≡ output (textOutcome c) (now (out .entry))) ⌝ }
 {
     if !cells::sound(c) {
-        return Written::Refused(Refusal::Unsound);
+        return Answer::Refused(Refusal::Unsound);
     }
     if out.len() < c.count {
-        return Written::Refused(Refusal::Short);
+        return Answer::Refused(Refusal::Short);
     }
     let n = cells::flatten(c, out);
-    Written::Wrote(n)
+    Answer::Done(n)
 }
 
-fn refuse_pop(c: Composition, why: Refusal) -> Popped
-    ensures { λ r. ⌜ r ≡ popRefused c why ⌝ }
-{
-    Popped {
-        comp: c,
-        answer: Written::Refused(why),
-    }
-}
-
-pub fn pop_last(mut c: Composition, out: &mut [u32]) -> Popped
-    ensures { λ r. ⌜ (r ≡ popped c (now (out .entry))) × (now (out .exit) ≡ popOut c (now (out .entry))) ⌝ }
+pub fn pop_last(mut c: Composition, out: &mut [u32]) -> Changed
+    ensures { λ r. ⌜ (r ≡ popped c (length (now (out .entry)))) × (now (out .exit) ≡ output (popOutcome c) (now (out .entry))) ⌝ }
 {
     if !cells::sound(c) {
-        return refuse_pop(c, Refusal::Unsound);
+        return refuse(c, Refusal::Unsound);
     }
     let n = c.count;
     if n == 0 {
-        return refuse_pop(c, Refusal::Empty);
+        return refuse(c, Refusal::Empty);
     }
     let m = n - 1;
     if out.len() < m {
-        return refuse_pop(c, Refusal::Short);
+        return refuse(c, Refusal::Short);
     }
     let z = cells::blank();
     c.cells[m] = z;
     c.count = m;
     let w = cells::flatten(c, out);
-    Popped {
+    Changed {
         comp: c,
-        answer: Written::Wrote(w),
+        answer: Answer::Done(w),
     }
 }

@@ -4,3 +4,4 @@ pub mod Holding
 pub mod Made
 pub mod SoundTest
 pub mod Text
+pub mod Leaving

@@ -1,4 +1,4 @@
 pub mod Cells
 pub mod Soundness
 pub mod Text
-pub mod Written
+pub mod Leaving

@@ -8,7 +8,7 @@ ghost use lib.ListN.{length, drop};
 ghost use Rattle.p0_choice.specs.Choice.{among};
 ghost use Rattle.p3_cells.specs.Cells.{limit, blank as blankCell, isBlank, marks, toneFits, isCell, typed as typedCell, isSound, used};
 ghost use Rattle.p3_cells.specs.Text.{letterOf, tonedLetter, shown as shownOf, textOf};
-use p0_refusals::Refusal;
+use p0_refusals::Answer;
 use p1_letters as letters;
 use p2_input_method as input_method;
 use p2_input_method::InputMethod;
@@ -35,10 +35,10 @@ pub struct Composition {
     pub count: usize,
 }
 
-// What a call that writes text answers: how many letters, or why none.
-pub enum Written {
-    Wrote(usize),
-    Refused(Refusal),
+// What a call leaves: the composition, and its answer.
+pub struct Changed {
+    pub comp: Composition,
+    pub answer: Answer,
 }
 
 // ---- cells

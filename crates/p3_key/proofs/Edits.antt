@@ -15,7 +15,7 @@ use Rattle.p3_cells.specs.Cells.{limit}
 use Rattle.p3_cells.specs.declared.Cell.{Cell}
 use Rattle.p3_cells.specs.declared.Mode.{Mode}
 use Rattle.p3_cells.specs.declared.Mode.the-variants.{Vietnamese, English}
-use Rattle.p3_cells.specs.declared.Written.the-variants.{Wrote, Refused}
+use Rattle.p0_refusals.specs.declared.Answer.the-variants.{Done, Refused}
 use Rattle.p3_step.specs.Key.{keyCells}
 use Rattle.p3_step.specs.Step.{stepOf}
 use Rattle.p3_step.specs.declared.Change.the-variants.{Nothing}
@@ -36,7 +36,7 @@ module _ (s : Step) (n room : ℕ) where
   step-short e l h q = rw (le-ltb limit (s .count) l, lt-ltb room (s .count) h) q
 
   pub step-done : s .count ≤ limit → s .count ≤ room
-      → record { change = s .change; at = s .at; also = s .also; mark = s .mark; count = s .count; letters = s .count; answer = Wrote (s .count) } ≡ stepEdit s n room
+      → record { change = s .change; at = s .at; also = s .also; mark = s .mark; count = s .count; letters = s .count; answer = Done (s .count) } ≡ stepEdit s n room
   unfolding stepEdit
   step-done l h = rw (le-ltb limit (s .count) l, le-ltb room (s .count) h) refl
 
@@ -74,7 +74,7 @@ unfolding stepEdit
 step-bounds s cs xs key k n room h = go (ltb limit (s .count)) (ltb room (s .count)) refl refl
   where
     go : (b d : Bool) → ltb limit (s .count) ≡ b → ltb room (s .count) ≡ d
-        → Bounds room (pick b (refused Full n) (pick d (refused Short n) (record { change = s .change; at = s .at; also = s .also; mark = s .mark; count = s .count; letters = s .count; answer = Wrote (s .count) })))
+        → Bounds room (pick b (refused Full n) (pick d (refused Short n) (record { change = s .change; at = s .at; also = s .also; mark = s .mark; count = s .count; letters = s .count; answer = Done (s .count) })))
     go true d p q = refused-bounds room n Full
     go false true p q = refused-bounds room n Short
     go false false p q =
@@ -88,7 +88,7 @@ pass-bounds : (n room : ℕ) → Bounds room (passEdit n room)
 unfolding passEdit
 pass-bounds n room = go (ltb room 1) refl
   where
-    go : (b : Bool) → ltb room 1 ≡ b → Bounds room (pick b (refused Short n) (record { change = Nothing; at = 0; also = 0; mark = 0; count = n; letters = 1; answer = Wrote 1 }))
+    go : (b : Bool) → ltb room 1 ≡ b → Bounds room (pick b (refused Short n) (record { change = Nothing; at = 0; also = 0; mark = 0; count = n; letters = 1; answer = Done 1 }))
     go true q = refused-bounds room n Short
     go false q = record { at = omega arith; also = omega arith; letters = omega arith; fits = ltb-false room 1 q }
 

@@ -6,7 +6,9 @@ use mathlib.Core.List.{List}
 use native.Mathlib.Omega.{arith}
 use lib.ListN.{length, getD, take, drop, set, length-set}
 use Rattle.p1_letters.specs.Alphabet.{asciiLower}
+use Rattle.p0_refusals.specs.Answers.{output}
 use Rattle.p3_cells.specs.Cells.{limit, blank, isSound, used}
+use Rattle.p3_cells.specs.Leaving.{changed}
 use Rattle.p3_cells.specs.declared.Cell.{Cell}
 use Rattle.p3_cells.specs.declared.Composition.{Composition}
 use Rattle.p3_cells.specs.declared.Mode.{Mode}
@@ -15,10 +17,9 @@ use Rattle.p3_cells.proofs.SoundTest.{fitsFrom}
 use Rattle.p3_row.specs.Row.{rowCells, bases}
 use Rattle.p3_row.proofs.Fill.{Filled, filled}
 use Rattle.p3_step.specs.Step.{putCell, alsoCell}
-use Rattle.p3_key.specs.Process.{keyAnswer, keyComposition, keyed, keyOut}
+use Rattle.p3_key.specs.Process.{keyOutcome, keyed}
 use Rattle.p3_key.specs.Edit.{soundBy, letterFor, editOf}
 use Rattle.p3_key.specs.declared.Edit.{Edit}
-use Rattle.p3_key.specs.declared.Keyed.{Keyed}
 use Rattle.p3_key.proofs.Faults.{faultsBy, faults-sound}
 use Rattle.p3_key.proofs.Letters.{lettersTo, letters-more}
 use Rattle.p3_key.proofs.Right.{edited, Right, edit-right}
@@ -67,14 +68,14 @@ pub owner-right : (c : Composition) (key : ℕ) (o out b row : List ℕ) (truste
     → row ≡ take (u - 0) (drop 0 b) → e ≡ editOf s (c .method) (c .mode) (rowCells row) key (c .count) (length o)
     → k ≡ asciiLower key → p ≡ putCell (e .change) (e .mark) (getD (c .cells) (e .at) blank) (getD (c .cells) (e .also) blank) key k → q ≡ alsoCell (e .change) p
     → out ≡ lettersTo (c .mode) key (set (set (c .cells) (e .at) p) (e .also) q) r o → r ≤ e .letters → e .letters ≤ r
-    → (record { comp = record { cells = set (set (c .cells) (e .at) p) (e .also) q; method = c .method; mode = c .mode; count = e .count }; answer = e .answer } ≡ keyed c key o)
-    × (out ≡ keyOut c key o)
-unfolding keyed edited
+    → (record { comp = record { cells = set (set (c .cells) (e .at) p) (e .also) q; method = c .method; mode = c .mode; count = e .count }; answer = e .answer } ≡ keyed c key (length o))
+    × (out ≡ output (keyOutcome c key) o)
+unfolding keyed changed edited
 owner-right c key o out b row trusted s t i j u k r e p q n f l z y h g a d v′ w x m m′ y′ r′ r″ =
     let d′ : r ≡ e .letters = omega arith in
     let known = edit-known c key o b trusted s t i j u e f l z y h g a d (rw v′ at w) in
     let right : Right c key o e = rw known (edit-right c key o n) in
-    (rw (m′, m, x) (λ δ. record { comp = right .comp δ; answer = right .answer δ }), y′ ∙ rw (m′, m, x, d′) (right .out))
+    (rw (m′, m, x) (λ δ. record { comp = right .comp δ; answer = right .told δ }), y′ ∙ rw (m′, m, x, d′) (right .out))
 
 -- ---- its two callers: one tests, and the other knows that the composition is sound
 pub tests : (c : Composition) → false ≡ true → isSound c ≡ true

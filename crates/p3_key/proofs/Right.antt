@@ -15,13 +15,14 @@ use Rattle.p0_refusals.specs.declared.Refusal.the-variants.{Foreign, Full, Shor
 use Rattle.p1_letters.specs.Alphabet.{inAlphabet, asciiLower}
 use Rattle.p3_cells.specs.Cells.{limit, blank, blanks, isCell, isSound, used, holding}
 use Rattle.p3_cells.specs.Text.{shown, textOf}
-use Rattle.p3_cells.specs.Written.{unless}
+use Rattle.p0_refusals.specs.Answers.{writes, refuses, answer, onto, output}
+use Rattle.p0_refusals.proofs.Answers.{refuses-answer, short-answer, writes-answer, writes-output}
+use Rattle.p3_cells.specs.Leaving.{changed}
 use Rattle.p3_cells.specs.declared.Cell.{Cell}
 use Rattle.p3_cells.specs.declared.Composition.{Composition}
 use Rattle.p3_cells.specs.declared.Mode.{Mode}
 use Rattle.p3_cells.specs.declared.Mode.the-variants.{Vietnamese, English}
-use Rattle.p3_cells.specs.declared.Written.{Written}
-use Rattle.p3_cells.specs.declared.Written.the-variants.{Wrote, Refused}
+use Rattle.p0_refusals.specs.declared.Answer.the-variants.{Done, Refused}
 use Rattle.p3_cells.proofs.Holding.{length-blanks, count-fits, used-length, used-cells, holding-used}
 use Rattle.p3_row.specs.Row.{rowCells, bases}
 use Rattle.p3_step.specs.Key.{keyCells}
@@ -30,7 +31,7 @@ use Rattle.p3_step.specs.declared.Change.the-variants.{Nothing}
 use Rattle.p3_step.specs.declared.Step.{Step}
 use Rattle.p3_step.proofs.Makes.{stored, Makes, step-makes}
 use Rattle.p3_step.proofs.Same.{step-same}
-use Rattle.p3_key.specs.Process.{inMode, next, written, isFull, keyAnswer, keyComposition, keyOut, keyed}
+use Rattle.p3_key.specs.Process.{inMode, next, written, isFull, keyOutcome, keyNext, keyed}
 use Rattle.p3_key.specs.Edit.{letterFor, refused, stepEdit, passEdit, editOf}
 use Rattle.p3_key.specs.declared.Edit.{Edit}
 use Rattle.p3_key.proofs.Letters.{lettersTo}
@@ -44,22 +45,60 @@ edited c e key =
     record { cells = set (set (c .cells) (e .at) (putEdit e (c .cells) key)) (e .also) (alsoCell (e .change) (putEdit e (c .cells) key)); method = c .method; mode = c .mode; count = e .count }
 
 pub record Right (c : Composition) (key : ℕ) (o : List ℕ) (e : Edit) : Type 0 where
-  pub comp : edited c e key ≡ keyComposition c key (length o)
-  pub answer : e .answer ≡ keyAnswer c key (length o)
-  pub out : lettersTo (c .mode) key (edited c e key .cells) (e .letters) o ≡ keyOut c key o
+  pub comp : edited c e key ≡ keyed c key (length o) .comp
+  pub told : e .answer ≡ answer (keyOutcome c key) (length o)
+  pub out : lettersTo (c .mode) key (edited c e key .cells) (e .letters) o ≡ output (keyOutcome c key) o
+
+-- ---- what there is to write, way by way
+module _ (c : Composition) (key : ℕ) where
+  outcome-unsound : isSound c ≡ false → keyOutcome c key ≡ refuses Unsound
+  unfolding keyOutcome
+  outcome-unsound s = rw s refl
+
+  module _ (s : isSound c ≡ true) where
+    outcome-foreign : inAlphabet key ≡ false → keyOutcome c key ≡ refuses Foreign
+    unfolding keyOutcome
+    outcome-foreign a = rw (s, a) refl
+
+    module _ (a : inAlphabet key ≡ true) where
+      outcome-full : isFull c key ≡ true → keyOutcome c key ≡ refuses Full
+      unfolding keyOutcome
+      outcome-full f = rw (s, a, f) refl
+
+      outcome-writes : isFull c key ≡ false → keyOutcome c key ≡ writes (written c key)
+      unfolding keyOutcome
+      outcome-writes f = rw (s, a, f) refl
 
 -- ---- nothing changes
 same-cells : (c : Composition) → set (set (c .cells) 0 (getD (c .cells) 0 blank)) 0 (getD (c .cells) 0 blank) ≡ c .cells
 same-cells c = rw (set-getD (c .cells) 0 blank) (set-getD (c .cells) 0 blank)
 
-refused-right : (c : Composition) (key : ℕ) (o : List ℕ) (r : Refusal) → keyAnswer c key (length o) ≡ Refused r → Right c key o (refused r (c .count))
-unfolding edited putCell alsoCell lettersTo keyComposition keyOut
-refused-right c key o r e =
+kept-right : (c : Composition) (key : ℕ) (o : List ℕ) (r : Refusal) → Refused r ≡ answer (keyOutcome c key) (length o) → Right c key o (refused r (c .count))
+unfolding edited putCell alsoCell lettersTo keyed changed output
+kept-right c key o r e =
     record {
-      comp = rw (same-cells c, e) refl;
-      answer = sym e;
-      out = rw e refl;
+      comp = rw (same-cells c, ← e) refl;
+      told = e;
+      out = rw (← e) refl;
     }
+
+refused-right : (c : Composition) (key : ℕ) (o : List ℕ) (r : Refusal) → keyOutcome c key ≡ refuses r → Right c key o (refused r (c .count))
+refused-right c key o r q = kept-right c key o r (refuses-answer _ r q (length o))
+
+short-right : (c : Composition) (key : ℕ) (o : List ℕ) → keyOutcome c key ≡ writes (written c key) → length o < length (written c key) → Right c key o (refused Short (c .count))
+short-right c key o q l = kept-right c key o Short (short-answer _ _ q (length o) l)
+
+-- ---- the composition and the output, where the letters are written
+module _ (c : Composition) (key : ℕ) (o : List ℕ) (q : keyOutcome c key ≡ writes (written c key)) (l : length (written c key) ≤ length o) where
+  told-written : (k : ℕ) → k ≡ length (written c key) → Done k ≡ answer (keyOutcome c key) (length o)
+  told-written k e = writes-answer _ _ q (length o) k l e
+
+  comp-written : keyed c key (length o) .comp ≡ keyNext c key
+  unfolding keyed changed
+  comp-written = rw (← told-written _ refl) refl
+
+  out-written : output (keyOutcome c key) o ≡ onto (written c key) o
+  out-written = sym (writes-output _ _ q o _ l refl)
 
 -- ---- English mode: the letter passes through
 one-letter : (key : ℕ) (cells : List Cell) → 0 < length cells → map (letterFor English key) (take 1 cells) ≡ key ∷ []
@@ -67,19 +106,19 @@ unfolding letterFor
 one-letter key [] h = absurd (omega arith)
 one-letter key (x ∷ xs) h = refl
 
-pass-right : (c : Composition) (key : ℕ) (o : List ℕ) → 0 < length (c .cells) → c .mode ≡ English → keyAnswer c key (length o) ≡ Wrote 1
-    → Right c key o (record { change = Nothing; at = 0; also = 0; mark = 0; count = c .count; letters = 1; answer = Wrote 1 })
-unfolding edited putCell alsoCell lettersTo keyComposition keyOut written
-pass-right c key o h m e =
+pass-right : (c : Composition) (key : ℕ) (o : List ℕ) → 0 < length (c .cells) → c .mode ≡ English → keyOutcome c key ≡ writes (written c key) → length (written c key) ≤ length o
+    → length (written c key) ≡ 1 → Right c key o (record { change = Nothing; at = 0; also = 0; mark = 0; count = c .count; letters = 1; answer = Done 1 })
+unfolding edited putCell alsoCell lettersTo keyNext written
+pass-right c key o h m q l e =
     record {
-      comp = rw (same-cells c, e, m) refl;
-      answer = sym e;
-      out = rw (same-cells c, e, m, one-letter key (c .cells) h) refl;
+      comp = rw (comp-written c key o q l, same-cells c, m) refl;
+      told = told-written c key o q l 1 (sym e);
+      out = rw (out-written c key o q l, same-cells c, m, one-letter key (c .cells) h) refl;
     }
 
 -- ---- Vietnamese: the step's cells
 abbrev wrote : Step → Edit
-wrote s = record { change = s .change; at = s .at; also = s .also; mark = s .mark; count = s .count; letters = s .count; answer = Wrote (s .count) }
+wrote s = record { change = s .change; at = s .at; also = s .also; mark = s .mark; count = s .count; letters = s .count; answer = Done (s .count) }
 
 blanks-less : (n k : ℕ) → drop k (blanks n) ≡ blanks (n - k)
 blanks-less n zero = let d : n - 0 ≡ n = omega arith in rw d refl
@@ -134,53 +173,26 @@ module _ (c : Composition) (key : ℕ) (m : c .mode ≡ Vietnamese) where
   unfolding textOf
   written-length = rw written-vietnamese (length-map (next c key) shown)
 
-  module _ (o : List ℕ) (k : ℕ) (e : keyAnswer c key (length o) ≡ Wrote k) where
-    comp-vietnamese : keyComposition c key (length o) ≡ holding c (next c key)
-    unfolding keyComposition
-    comp-vietnamese = rw e (in-vietnamese (c .mode) (holding c (next c key)) c m)
-
-    out-vietnamese : keyOut c key o ≡ textOf (next c key) ++ drop (length (next c key)) o
-    unfolding keyOut
-    out-vietnamese = rw (e, written-length, written-vietnamese) refl
+  next-vietnamese : keyNext c key ≡ holding c (next c key)
+  unfolding keyNext
+  next-vietnamese = in-vietnamese (c .mode) (holding c (next c key)) c m
 
 front : (c : Composition) (xs : List Cell) → take (length xs) (holding c xs .cells) ≡ xs
 unfolding holding
 front c xs = take-append-seam xs (blanks (limit - length xs))
 
 step-right : (c : Composition) → isSound c ≡ true → length (c .cells) ≡ limit → (key : ℕ) (t : Step) → Makes t (used c) (next c key) key (asciiLower key) → length (next c key) ≤ limit
-    → (o : List ℕ) → c .mode ≡ Vietnamese → keyAnswer c key (length o) ≡ Wrote (t .count) → Right c key o (wrote t)
+    → (o : List ℕ) → c .mode ≡ Vietnamese → keyOutcome c key ≡ writes (written c key) → length (written c key) ≤ length o → Right c key o (wrote t)
 unfolding lettersTo
-step-right c s n key t h l o m e =
+step-right c s n key t h l o m q r =
     let d = held c s n (next c key) key t h l in
     record {
-      comp = d ∙ sym (comp-vietnamese c key m o (t .count) e);
-      answer = sym e;
-      out = rw (d, h .count, front c (next c key), letters-vietnamese (c .mode) key (next c key) m) (sym (out-vietnamese c key m o (t .count) e));
+      comp = d ∙ sym (comp-written c key o q r ∙ next-vietnamese c key m);
+      told = told-written c key o q r (t .count) (h .count ∙ sym (written-length c key m));
+      out =
+          rw (d, h .count, front c (next c key), letters-vietnamese (c .mode) key (next c key) m)
+          (sym (out-written c key o q r ∙ rw (written-length c key m, written-vietnamese c key m) refl));
     }
-
--- ---- the answer, way by way
-module _ (c : Composition) (key n : ℕ) where
-  answer-unsound : isSound c ≡ false → keyAnswer c key n ≡ Refused Unsound
-  unfolding keyAnswer
-  answer-unsound s = rw s refl
-
-  module _ (s : isSound c ≡ true) where
-    answer-foreign : inAlphabet key ≡ false → keyAnswer c key n ≡ Refused Foreign
-    unfolding keyAnswer
-    answer-foreign a = rw (s, a) refl
-
-    module _ (a : inAlphabet key ≡ true) where
-      answer-full : isFull c key ≡ true → keyAnswer c key n ≡ Refused Full
-      unfolding keyAnswer
-      answer-full f = rw (s, a, f) refl
-
-      answer-short : isFull c key ≡ false → n < length (written c key) → keyAnswer c key n ≡ Refused Short
-      unfolding keyAnswer
-      answer-short f l = rw (s, a, f, lt-ltb n (length (written c key)) l) refl
-
-      answer-wrote : isFull c key ≡ false → length (written c key) ≤ n → keyAnswer c key n ≡ Wrote (length (written c key))
-      unfolding keyAnswer
-      answer-wrote f l = rw (s, a, f, le-ltb n (length (written c key)) l) refl
 
 -- ---- the edit of a sound composition and a letter of the alphabet
 module _ (c : Composition) (key : ℕ) (o : List ℕ) (n : length (c .cells) ≡ limit) (s : isSound c ≡ true) (a : inAlphabet key ≡ true) where
@@ -198,13 +210,13 @@ module _ (c : Composition) (key : ℕ) (o : List ℕ) (n : length (c .cells) ≡
     english-right = go (ltb (length o) 1) refl
       where
         go : (b : Bool) → ltb (length o) 1 ≡ b
-            → Right c key o (pick b (refused Short (c .count)) (record { change = Nothing; at = 0; also = 0; mark = 0; count = c .count; letters = 1; answer = Wrote 1 }))
+            → Right c key o (pick b (refused Short (c .count)) (record { change = Nothing; at = 0; also = 0; mark = 0; count = c .count; letters = 1; answer = Done 1 }))
         go true q =
             let l : length o < length (written c key) = rw written-english (ltb-true (length o) 1 q) in
-            refused-right c key o Short (answer-short c key (length o) s a full-english l)
+            short-right c key o (outcome-writes c key s a full-english) l
         go false q =
             let l : length (written c key) ≤ length o = rw written-english (ltb-false (length o) 1 q) in
-            pass-right c key o (rw n (omega arith)) m (answer-wrote c key (length o) s a full-english l ∙ ap Wrote written-english)
+            pass-right c key o (rw n (omega arith)) m (outcome-writes c key s a full-english) l written-english
 
   module _ (m : c .mode ≡ Vietnamese) (t : Step) (h : Makes t (used c) (next c key) key (asciiLower key)) where
     vietnamese-right : Right c key o (stepEdit t (c .count) (length o))
@@ -213,14 +225,14 @@ module _ (c : Composition) (key : ℕ) (o : List ℕ) (n : length (c .cells) ≡
       where
         go : (b d : Bool) → ltb limit (t .count) ≡ b → ltb (length o) (t .count) ≡ d
             → Right c key o (pick b (refused Full (c .count)) (pick d (refused Short (c .count)) (wrote t)))
-        go true d p q = refused-right c key o Full (answer-full c key (length o) s a (full-vietnamese c key m ∙ rw (h .count) at p))
+        go true d p q = refused-right c key o Full (outcome-full c key s a (full-vietnamese c key m ∙ rw (h .count) at p))
         go false true p q =
             let l : length o < length (written c key) = rw (written-length c key m, ← h .count) (ltb-true (length o) (t .count) q) in
-            refused-right c key o Short (answer-short c key (length o) s a (full-vietnamese c key m ∙ rw (h .count) at p) l)
+            short-right c key o (outcome-writes c key s a (full-vietnamese c key m ∙ rw (h .count) at p)) l
         go false false p q =
             let l : length (written c key) ≤ length o = rw (written-length c key m, ← h .count) (ltb-false (length o) (t .count) q) in
             step-right c s n key t h (rw (h .count) at (ltb-false limit (t .count) p)) o m
-            (answer-wrote c key (length o) s a (full-vietnamese c key m ∙ rw (h .count) at p) l ∙ ap Wrote (written-length c key m ∙ sym (h .count)))
+            (outcome-writes c key s a (full-vietnamese c key m ∙ rw (h .count) at p)) l
 
 -- what the edit leaves is right
 pub edit-right : (c : Composition) (key : ℕ) (o : List ℕ) → length (c .cells) ≡ limit
@@ -234,7 +246,7 @@ edit-right c key o n = go (isSound c) (inAlphabet key) (c .mode) refl refl refl
     go : (s a : Bool) (m : Mode) → isSound c ≡ s → inAlphabet key ≡ a → c .mode ≡ m
         → Right c key o (pick s (pick a (inMode m (stepEdit (stepOf (c .method) (rowCells (bases (used c))) (asciiLower key)) (c .count) (length o)) (passEdit (c .count) (length o))) (refused Foreign (c .count)))
         (refused Unsound (c .count)))
-    go false a m e f g = refused-right c key o Unsound (answer-unsound c key (length o) e)
-    go true false m e f g = refused-right c key o Foreign (answer-foreign c key (length o) e f)
+    go false a m e f g = refused-right c key o Unsound (outcome-unsound c key e)
+    go true false m e f g = refused-right c key o Foreign (outcome-foreign c key e f)
     go true true English e f g = english-right c key o n e f g
     go true true Vietnamese e f g = vietnamese-right c key o n e f g (stepOf (c .method) (rowCells (bases (used c))) (asciiLower key)) (made e)

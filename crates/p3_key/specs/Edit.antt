@@ -14,8 +14,8 @@ use Rattle.p3_cells.specs.Text.{shown}
 use Rattle.p3_cells.specs.declared.Cell.{Cell}
 use Rattle.p3_cells.specs.declared.Mode.{Mode}
 use Rattle.p3_cells.specs.declared.Mode.the-variants.{Vietnamese, English}
-use Rattle.p3_cells.specs.declared.Written.{Written}
-use Rattle.p3_cells.specs.declared.Written.the-variants.{Wrote, Refused}
+use Rattle.p0_refusals.specs.declared.Answer.{Answer}
+use Rattle.p0_refusals.specs.declared.Answer.the-variants.{Done, Refused}
 use Rattle.p3_step.specs.Step.{stepOf}
 use Rattle.p3_step.specs.declared.Change.the-variants.{Nothing}
 use Rattle.p3_step.specs.declared.Step.{Step}
@@ -38,12 +38,12 @@ unfoldable pub stepEdit : Step → ℕ → ℕ → Edit
 stepEdit s n room =
     pick (ltb limit (s .count)) (refused Full n)
     (pick (ltb room (s .count)) (refused Short n)
-    (record { change = s .change; at = s .at; also = s .also; mark = s .mark; count = s .count; letters = s .count; answer = Wrote (s .count) }))
+    (record { change = s .change; at = s .at; also = s .also; mark = s .mark; count = s .count; letters = s .count; answer = Done (s .count) }))
 
 unfoldable pub passEdit : ℕ → ℕ → Edit
 passEdit n room =
     pick (ltb room 1) (refused Short n)
-    (record { change = Nothing; at = 0; also = 0; mark = 0; count = n; letters = 1; answer = Wrote 1 })
+    (record { change = Nothing; at = 0; also = 0; mark = 0; count = n; letters = 1; answer = Done 1 })
 
 unfoldable pub editOf : Bool → InputMethod → Mode → List Cell → ℕ → ℕ → ℕ → Edit
 editOf sound m o cs key n room =

@@ -1,23 +1,22 @@
 -- Document 01: the key call, with its refusals in their order, "10, .. then 1 .., then 2, .. last 3".
 use Prim.Native.Nat.{ℕ}
-use mathlib.Core.Bool.{Bool, true, false}
-use mathlib.Core.List.{List, [], _∷_, _++_}
+use mathlib.Core.Bool.{Bool, false}
+use mathlib.Core.List.{List, [], _∷_}
 use lib.Dec.{ltb}
-use lib.ListN.{length, drop}
+use lib.ListN.{length}
 use Rattle.p0_choice.specs.Choice.{pick}
-use Rattle.p0_refusals.specs.declared.Refusal.the-variants.{Foreign, Full, Short, Unsound}
+use Rattle.p0_refusals.specs.Answers.{Outcome, writes, refuses, answer}
+use Rattle.p0_refusals.specs.declared.Refusal.the-variants.{Foreign, Full, Unsound}
 use Rattle.p1_letters.specs.Alphabet.{inAlphabet}
 use Rattle.p3_cells.specs.Cells.{limit, isSound, used, holding}
 use Rattle.p3_cells.specs.Text.{textOf}
-use Rattle.p3_cells.specs.Written.{unless}
+use Rattle.p3_cells.specs.Leaving.{changed}
 use Rattle.p3_cells.specs.declared.Cell.{Cell}
+use Rattle.p3_cells.specs.declared.Changed.{Changed}
 use Rattle.p3_cells.specs.declared.Composition.{Composition}
 use Rattle.p3_cells.specs.declared.Mode.{Mode}
 use Rattle.p3_cells.specs.declared.Mode.the-variants.{Vietnamese, English}
-use Rattle.p3_cells.specs.declared.Written.{Written}
-use Rattle.p3_cells.specs.declared.Written.the-variants.{Wrote, Refused}
 use Rattle.p3_step.specs.Key.{keyCells}
-use Rattle.p3_key.specs.declared.Keyed.{Keyed}
 
 abbrev pub inMode : {A : Type 0} → Mode → A → A → A
 inMode Vietnamese a b = a
@@ -35,24 +34,16 @@ written c key = inMode (c .mode) (textOf (next c key)) (key ∷ [])
 unfoldable pub isFull : Composition → ℕ → Bool
 isFull c key = inMode (c .mode) (ltb limit (length (next c key))) false
 
--- the answer, where the output has n places
-unfoldable pub keyAnswer : Composition → ℕ → ℕ → Written
-keyAnswer c key n =
-    pick (isSound c)
-    (pick (inAlphabet key)
-    (pick (isFull c key) (Refused Full) (pick (ltb n (length (written c key))) (Refused Short) (Wrote (length (written c key)))))
-    (Refused Foreign))
-    (Refused Unsound)
+-- what there is to write, or the refusal
+unfoldable pub keyOutcome : Composition → ℕ → Outcome
+keyOutcome c key =
+    pick (isSound c) (pick (inAlphabet key) (pick (isFull c key) (refuses Full) (writes (written c key))) (refuses Foreign))
+    (refuses Unsound)
 
--- the composition after the key; English mode: "nothing changes"
-unfoldable pub keyComposition : Composition → ℕ → ℕ → Composition
-keyComposition c key n = unless (keyAnswer c key n) c (inMode (c .mode) (holding c (next c key)) c)
+-- the composition after a key that is not refused; English mode: "nothing changes"
+unfoldable pub keyNext : Composition → ℕ → Composition
+keyNext c key = inMode (c .mode) (holding c (next c key)) c
 
--- both
-unfoldable pub keyed : Composition → ℕ → List ℕ → Keyed
-keyed c key out = record { comp = keyComposition c key (length out); answer = keyAnswer c key (length out) }
-
--- the output after the key: "written from the start of the output; the rest of it keeps its values"
-unfoldable pub keyOut : Composition → ℕ → List ℕ → List ℕ
-keyOut c key out =
-    unless (keyAnswer c key (length out)) out (written c key ++ drop (length (written c key)) out)
+-- what the key leaves, where the output has n places
+unfoldable pub keyed : Composition → ℕ → ℕ → Changed
+keyed c key n = changed (answer (keyOutcome c key) n) c (keyNext c key)

@@ -7,28 +7,24 @@ ghost use mathlib.Core.Bool.{true};
 ghost use Prim.Native.Nat.{_<_, _≤_, min};
 ghost use lib.Dec.{eqb};
 ghost use lib.ListN.{length};
+ghost use Rattle.p0_refusals.specs.Answers.{output};
 ghost use Rattle.p3_cells.specs.Cells.{limit, isCell, isSound};
 ghost use Rattle.p3_row.specs.Row.{rowCells};
-ghost use Rattle.p3_key.specs.Process.{keyed, keyOut};
+ghost use Rattle.p3_key.specs.Process.{keyOutcome, keyed};
 ghost use Rattle.p3_key.specs.Edit.{soundBy, letterFor, refused, stepEdit, passEdit, editOf};
+use p0_refusals::Answer;
 use p0_refusals::Refusal;
 use p1_letters as letters;
 use p2_input_method::InputMethod;
 use p3_cells as cells;
 use p3_cells::Cell;
+use p3_cells::Changed;
 use p3_cells::Composition;
 use p3_cells::LIMIT;
 use p3_cells::Mode;
-use p3_cells::Written;
 use p3_step as step;
 use p3_step::Change;
 use p3_step::Step;
-
-// The composition after a key, and what was written.
-pub struct Keyed {
-    pub comp: Composition,
-    pub answer: Written,
-}
 
 // A step or a refusal, with how many letters are written and the answer.
 pub struct Edit {
@@ -38,7 +34,7 @@ pub struct Edit {
     pub mark: u16,
     pub count: usize,
     pub letters: usize,
-    pub answer: Written,
+    pub answer: Answer,
 }
 
 // ---- the letters and the refusals
@@ -62,7 +58,7 @@ fn refuse(r: Refusal, n: usize) -> Edit
         mark: 0,
         count: n,
         letters: 0,
-        answer: Written::Refused(r),
+        answer: Answer::Refused(r),
     }
 }
 
@@ -84,7 +80,7 @@ fn step_edit(s: Step, n: usize, room: usize) -> Edit
         mark: s.mark,
         count: count,
         letters: count,
-        answer: Written::Wrote(count),
+        answer: Answer::Done(count),
     }
 }
 
@@ -101,7 +97,7 @@ fn pass_edit(n: usize, room: usize) -> Edit
         mark: 0,
         count: n,
         letters: 1,
-        answer: Written::Wrote(1),
+        answer: Answer::Done(1),
     }
 }
 
@@ -173,9 +169,9 @@ fn is_sound(trusted: bool, n: usize, faults: u64) -> bool
 
 // The owner. Its three loops stand here because a function that is handed the composition copies it: the row and the
 // test of the cells in use, the test of the blank ones, and the text. Where it is trusted the tests are compiled away.
-fn compose(mut c: Composition, key: u32, out: &mut [u32], trusted: bool) -> Keyed
+fn compose(mut c: Composition, key: u32, out: &mut [u32], trusted: bool) -> Changed
     requires { ⌜ (trusted ≡ true → isSound c ≡ true) ⌝ }
-    ensures { λ r. ⌜ (r ≡ keyed c key (now (out .entry))) × (now (out .exit) ≡ keyOut c key (now (out .entry))) ⌝ }
+    ensures { λ r. ⌜ (r ≡ keyed c key (length (now (out .entry)))) × (now (out .exit) ≡ output (keyOutcome c key) (now (out .entry))) ⌝ }
 {
     let n = c.count;
     let used = at_most(n);
@@ -218,22 +214,22 @@ fn compose(mut c: Composition, key: u32, out: &mut [u32], trusted: bool) -> Keye
         j += 1;
     }
     let answer = e.answer;
-    Keyed {
+    Changed {
         comp: c,
         answer: answer,
     }
 }
 
-pub fn process_key(c: Composition, key: u32, out: &mut [u32]) -> Keyed
-    ensures { λ r. ⌜ (r ≡ keyed c key (now (out .entry))) × (now (out .exit) ≡ keyOut c key (now (out .entry))) ⌝ }
+pub fn process_key(c: Composition, key: u32, out: &mut [u32]) -> Changed
+    ensures { λ r. ⌜ (r ≡ keyed c key (length (now (out .entry)))) × (now (out .exit) ≡ output (keyOutcome c key) (now (out .entry))) ⌝ }
 {
     compose(c, key, out, false)
 }
 
 // The same without the test of soundness, for a caller that knows it: a loop over keys of our own.
-pub fn process_sound_key(c: Composition, key: u32, out: &mut [u32]) -> Keyed
+pub fn process_sound_key(c: Composition, key: u32, out: &mut [u32]) -> Changed
     requires { ⌜ isSound c ≡ true ⌝ }
-    ensures { λ r. ⌜ (r ≡ keyed c key (now (out .entry))) × (now (out .exit) ≡ keyOut c key (now (out .entry))) ⌝ }
+    ensures { λ r. ⌜ (r ≡ keyed c key (length (now (out .entry)))) × (now (out .exit) ≡ output (keyOutcome c key) (now (out .entry))) ⌝ }
 {
     compose(c, key, out, true)
 }

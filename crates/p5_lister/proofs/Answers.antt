@@ -10,7 +10,8 @@ use borrow.Author.Tests.{lt-ltb, le-ltb}
 use Rattle.p0_refusals.specs.declared.Refusal.the-variants.{Foreign, Short, Long, NoWord}
 use Rattle.p0_refusals.specs.declared.Answer.{Answer}
 use Rattle.p0_refusals.specs.declared.Answer.the-variants.{Done, Refused}
-use Rattle.p0_refusals.specs.Answers.{answer, output}
+use Rattle.p0_refusals.specs.Answers.{writes, refuses, answer, output}
+use Rattle.p0_refusals.proofs.Answers.{refuses-answer, refuses-output, short-answer, short-output, writes-answer, writes-output}
 use Rattle.p1_letters.specs.Alphabet.{allLetters}
 use Rattle.p4_rows.specs.Rows.{Word}
 use Rattle.p4_spelling.specs.Answers.{permitted}
@@ -23,61 +24,70 @@ pub total-is : 5963 ≡ size listing
 total-is = sym size-listing
 
 -- ---- word_number: the word is the first len letters of l
-module _ (n : ℕ) (out : List ℕ) where
-  pub beyond : 5963 ≤ n → Refused NoWord ≡ answer (numbered n) (length out)
-  unfolding numbered answer
-  beyond h = rw (le-ltb n 5963 h)
+module _ (n : ℕ) where
+  module _ (h : 5963 ≤ n) where
+    no-word : numbered n ≡ refuses NoWord
+    unfolding numbered
+    no-word = rw (le-ltb n 5963 h)
 
-  pub beyond-out : 5963 ≤ n → out ≡ output (numbered n) out
-  unfolding numbered output
-  beyond-out h = rw (le-ltb n 5963 h)
+    pub beyond : (m : ℕ) → Refused NoWord ≡ answer (numbered n) m
+    beyond m = refuses-answer _ _ no-word m
+
+    pub beyond-out : (out : List ℕ) → out ≡ output (numbered n) out
+    beyond-out out = refuses-output _ _ no-word out
 
   module _ (len : ℕ) (l : List ℕ) (h : n < 5963) (is : take len l ≡ nth listing n) (eight : length l ≡ 8) (small : len ≤ 8) where
+    named : numbered n ≡ writes (nth listing n)
+    unfolding numbered
+    named = rw (lt-ltb n 5963 h)
+
     long : length (nth listing n) ≡ len
     long = ap length (sym is) ∙ length-take-le len l (omega arith)
 
-    pub short : length out < len → Refused Short ≡ answer (numbered n) (length out)
-    unfolding numbered answer
-    short s = rw (lt-ltb n 5963 h, long, lt-ltb (length out) len s)
+    pub short : (m : ℕ) → m < len → Refused Short ≡ answer (numbered n) m
+    short m s = short-answer _ _ named m (rw long s)
 
-    pub short-out : length out < len → out ≡ output (numbered n) out
-    unfolding numbered output
-    short-out s = rw (lt-ltb n 5963 h, long, lt-ltb (length out) len s)
+    pub short-out : (out : List ℕ) → length out < len → out ≡ output (numbered n) out
+    short-out out s = short-output _ _ named out (rw long s)
 
-    pub done : len ≤ length out → Done len ≡ answer (numbered n) (length out)
-    unfolding numbered answer
-    done s = rw (lt-ltb n 5963 h, long, le-ltb (length out) len s)
+    pub done : (m : ℕ) → len ≤ m → Done len ≡ answer (numbered n) m
+    done m s = writes-answer _ _ named m len (rw long s) (sym long)
 
-    pub done-out : (o : List ℕ) → len ≤ length out → o ≡ take len l ++ drop len out → o ≡ output (numbered n) out
-    unfolding numbered output
-    done-out o s e = e ∙ rw (lt-ltb n 5963 h, is, long, le-ltb (length out) len s)
+    pub done-out : (out o : List ℕ) → len ≤ length out → o ≡ take len l ++ drop len out → o ≡ output (numbered n) out
+    done-out out o s e = writes-output _ _ named out o (rw long s) (rw (long, ← is) e)
 
 -- ---- next_word: n words are at most w
-module _ (w : Word) (m : ℕ) (out : List ℕ) where
-  pub too-long : 64 < length w → Refused Long ≡ answer (following w) m
-  unfolding following permitted answer
-  too-long h = rw (lt-ltb 64 (length w) h)
+module _ (w : Word) where
+  module _ (h : 64 < length w) where
+    not-short : following w ≡ refuses Long
+    unfolding following permitted
+    not-short = rw (lt-ltb 64 (length w) h)
 
-  pub too-long-out : 64 < length w → out ≡ output (following w) out
-  unfolding following permitted output
-  too-long-out h = rw (lt-ltb 64 (length w) h)
+    pub too-long : (m : ℕ) → Refused Long ≡ answer (following w) m
+    too-long m = refuses-answer _ _ not-short m
+
+    pub too-long-out : (out : List ℕ) → out ≡ output (following w) out
+    too-long-out out = refuses-output _ _ not-short out
 
   module _ (b : Bool) (l : length w ≤ 64) (e : b ≡ allLetters w) where
-    pub foreign : b ≡ false → Refused Foreign ≡ answer (following w) m
-    unfolding following permitted answer
-    foreign f = rw (le-ltb 64 (length w) l, sym e ∙ f)
+    module _ (f : b ≡ false) where
+      not-letters : following w ≡ refuses Foreign
+      unfolding following permitted
+      not-letters = rw (le-ltb 64 (length w) l, sym e ∙ f)
 
-    pub foreign-out : b ≡ false → out ≡ output (following w) out
-    unfolding following permitted output
-    foreign-out f = rw (le-ltb 64 (length w) l, sym e ∙ f)
+      pub foreign : (m : ℕ) → Refused Foreign ≡ answer (following w) m
+      foreign m = refuses-answer _ _ not-letters m
+
+      pub foreign-out : (out : List ℕ) → out ≡ output (following w) out
+      foreign-out out = refuses-output _ _ not-letters out
 
     module _ (f : b ≡ true) (n : ℕ) (u : n ≡ upTo listing w) where
       same-outcome : following w ≡ numbered n
       unfolding following permitted
       same-outcome = rw (le-ltb 64 (length w) l, sym e ∙ f, sym u)
 
-      pub follows : (r : Answer) → r ≡ answer (numbered n) m → r ≡ answer (following w) m
-      follows r q = rw same-outcome q
+      pub follows : (m : ℕ) (r : Answer) → r ≡ answer (numbered n) m → r ≡ answer (following w) m
+      follows m r q = rw same-outcome q
 
-      pub follows-out : (o : List ℕ) → o ≡ output (numbered n) out → o ≡ output (following w) out
-      follows-out o q = rw same-outcome q
+      pub follows-out : (out o : List ℕ) → o ≡ output (numbered n) out → o ≡ output (following w) out
+      follows-out out o q = rw same-outcome q

@@ -7,28 +7,25 @@ use lib.Dec.{eqb}
 use lib.ListN.{length}
 use borrow.Author.Tests.{not-true, not-false, eq-eqb, ne-eqb, le-leb, lt-leb}
 use Rattle.p0_choice.specs.Choice.{pick}
+use Rattle.p0_refusals.specs.Answers.{Outcome, answer, output}
 use Rattle.p0_refusals.specs.declared.Answer.{Answer}
 use Rattle.p0_refusals.specs.declared.Answer.the-variants.{Done, Refused}
 use Rattle.p0_refusals.specs.declared.Refusal.the-variants.{Unsound}
 use Rattle.p2_input_method.specs.declared.InputMethod.{InputMethod}
 use Rattle.p3_cells.specs.Cells.{isSound, used, holding}
 use Rattle.p3_cells.specs.declared.Composition.{Composition}
-use Rattle.p3_cells.specs.declared.Written.{Written}
 use Rattle.p6_bytes.specs.Bytes.{size, bytesOf, compositionOf, methodOf, bytesSound}
 use Rattle.p6_bytes.proofs.Sound.{sound-size, sound-composition}
-use Rattle.p3_key.specs.Process.{keyed, keyOut}
-use Rattle.p3_key.specs.declared.Keyed.{Keyed}
+use Rattle.p3_key.specs.Process.{keyOutcome, keyed}
 use Rattle.p3_calls.specs.Literal.{literal}
-use Rattle.p3_calls.specs.Output.{textAnswer, textOut, popped, popOut}
+use Rattle.p3_calls.specs.Output.{textOutcome, popOutcome, popped}
 use Rattle.p3_calls.specs.Settings.{created, resetTo, methodSet, enabledSet}
-use Rattle.p3_calls.specs.declared.Changed.{Changed}
-use Rattle.p3_calls.specs.declared.Popped.{Popped}
+use Rattle.p3_cells.specs.declared.Changed.{Changed}
 use Rattle.p3_undo.specs.Call.{undoTelex}
 use Rattle.p3_undo.specs.declared.Undone.{Undone}
-use Rattle.p6_composition.specs.Steps.{writtenAnswer, keyedStep, changedStep, poppedStep, undoneStep}
+use Rattle.p6_composition.specs.Steps.{undoneStep}
 use Rattle.p6_composition.specs.Calls.{answerOn, after, bytesOn, outOn, keyStep, resetStep, literalStep, popStep, undoStep, orUnsound, methodStep, modeStep, textOn, newOn, newBytes}
 use Rattle.p6_composition.proofs.Tidy.{tidy-as, key-tidy, reset-tidy, literal-tidy, pop-tidy, undo-step-tidy, method-tidy, mode-tidy, created-tidy}
-use Rattle.p6_composition.specs.declared.Step.{Step}
 
 -- the test has let the bytes through
 pub ok-sound : (b : List ℕ) (v : Bool) → v ≡ bytesSound b → not v ≡ false → bytesSound b ≡ true
@@ -37,7 +34,7 @@ ok-sound b v e t = sym e ∙ not-false v t
 pub ok-size : (b : List ℕ) (v : Bool) → v ≡ bytesSound b → not v ≡ false → length b ≡ size
 ok-size b v e t = sound-size b (ok-sound b v e t)
 
-module _ (b : List ℕ) (s : Step) (v : Bool) (e : v ≡ bytesSound b) where
+module _ (b : List ℕ) (s : Changed) (v : Bool) (e : v ≡ bytesSound b) where
   pub unsound-answer : not v ≡ true → Refused Unsound ≡ answerOn b s
   unfolding answerOn
   unsound-answer t = rw (← e, not-true v t) refl
@@ -47,25 +44,40 @@ module _ (b : List ℕ) (s : Step) (v : Bool) (e : v ≡ bytesSound b) where
   unsound-bytes t = rw (← e, not-true v t) refl
 
   -- p is what the call by value leaves
-  module _ (p : Step) (q : p ≡ s) where
+  module _ (p : Changed) (q : p ≡ s) where
     pub sound-answer : (r : Answer) → not v ≡ false → r ≡ p .answer → r ≡ answerOn b s
     unfolding answerOn
-    sound-answer r t h = rw (← e, not-false v t) (h ∙ ap (λ (x : Step). x .answer) q)
+    sound-answer r t h = rw (← e, not-false v t) (h ∙ ap (λ (x : Changed). x .answer) q)
 
     pub sound-bytes : (new : List ℕ) → not v ≡ false → new ≡ after (p .answer) b (p .comp) → new ≡ bytesOn b s
     unfolding bytesOn answerOn
-    sound-bytes new t h = rw (← e, not-false v t) (h ∙ ap (λ (x : Step). after (x .answer) b (x .comp)) q)
+    sound-bytes new t h = rw (← e, not-false v t) (h ∙ ap (λ (x : Changed). after (x .answer) b (x .comp)) q)
 
 -- ---- a lent output
-pub unsound-out : (b out o : List ℕ) (v : Bool) → v ≡ bytesSound b → not v ≡ true → out ≡ outOn b out o
-unfolding outOn
-unsound-out b out o v e t = rw (← e, not-true v t) refl
+module _ (b out : List ℕ) (w : Outcome) (v : Bool) (e : v ≡ bytesSound b) where
+  pub unsound-out : not v ≡ true → out ≡ outOn b w out
+  unfolding outOn
+  unsound-out t = rw (← e, not-true v t) refl
+
+  sound-out : (new : List ℕ) → not v ≡ false → new ≡ output w out → new ≡ outOn b w out
+  unfolding outOn
+  sound-out new t h = rw (← e, not-false v t) h
+
+module _ (b out new : List ℕ) (c : Composition) (v : Bool) (e : v ≡ bytesSound b) (t : not v ≡ false) (f : c ≡ compositionOf b) where
+  pub key-out : (l : ℕ) → new ≡ output (keyOutcome c l) out → new ≡ outOn b (keyOutcome (compositionOf b) l) out
+  key-out l h = sound-out b out _ v e new t (rw (← f) h)
+
+  pub pop-out : new ≡ output (popOutcome c) out → new ≡ outOn b (popOutcome (compositionOf b)) out
+  pop-out h = sound-out b out _ v e new t (rw (← f) h)
+
+  pub text-out : new ≡ output (textOutcome c) out → new ≡ outOn b (textOutcome (compositionOf b)) out
+  text-out h = sound-out b out _ v e new t (rw (← f) h)
 
 -- ---- a key
-module _ (b : List ℕ) (c : Composition) (l : ℕ) (out : List ℕ) (k : Keyed) (p : Step) (f : c ≡ compositionOf b) (g : k ≡ keyed c l out) (h : p ≡ keyedStep k) where
+module _ (b : List ℕ) (c : Composition) (l : ℕ) (out : List ℕ) (p : Changed) (f : c ≡ compositionOf b) (g : p ≡ keyed c l (length out)) where
   pub key-is : p ≡ keyStep b l out
   unfolding keyStep
-  key-is = rw (h, g, f) refl
+  key-is = rw (g, f) refl
 
   pub key-ready : (v : Bool) → v ≡ bytesSound b → not v ≡ false → p .comp ≡ holding (p .comp) (used (p .comp))
   key-ready v e t = tidy-as p (keyStep b l out) key-is (key-tidy b (ok-sound b v e t) l out)
@@ -75,34 +87,34 @@ pub ok-read : (b : List ℕ) (v : Bool) (c : Composition) → v ≡ bytesSound b
 ok-read b v c e t f = rw f (sound-composition b (ok-sound b v e t))
 
 -- ---- the reset
-module _ (b : List ℕ) (c : Composition) (k : Changed) (p : Step) (f : c ≡ compositionOf b) (g : k ≡ resetTo c) (h : p ≡ changedStep k) where
+module _ (b : List ℕ) (c : Composition) (p : Changed) (f : c ≡ compositionOf b) (g : p ≡ resetTo c) where
   pub reset-is : p ≡ resetStep b
   unfolding resetStep
-  reset-is = rw (h, g, f) refl
+  reset-is = rw (g, f) refl
 
   pub reset-ready : (v : Bool) → v ≡ bytesSound b → not v ≡ false → p .comp ≡ holding (p .comp) (used (p .comp))
   reset-ready v e t = tidy-as p (resetStep b) reset-is (reset-tidy b (ok-sound b v e t))
 
 -- ---- a literal
-module _ (b : List ℕ) (c : Composition) (l : ℕ) (k : Changed) (p : Step) (f : c ≡ compositionOf b) (g : k ≡ literal c l) (h : p ≡ changedStep k) where
+module _ (b : List ℕ) (c : Composition) (l : ℕ) (p : Changed) (f : c ≡ compositionOf b) (g : p ≡ literal c l) where
   pub literal-is : p ≡ literalStep b l
   unfolding literalStep
-  literal-is = rw (h, g, f) refl
+  literal-is = rw (g, f) refl
 
   pub literal-ready : (v : Bool) → v ≡ bytesSound b → not v ≡ false → p .comp ≡ holding (p .comp) (used (p .comp))
   literal-ready v e t = tidy-as p (literalStep b l) literal-is (literal-tidy b (ok-sound b v e t) l)
 
 -- ---- the removal
-module _ (b : List ℕ) (c : Composition) (out : List ℕ) (k : Popped) (p : Step) (f : c ≡ compositionOf b) (g : k ≡ popped c out) (h : p ≡ poppedStep k) where
+module _ (b : List ℕ) (c : Composition) (out : List ℕ) (p : Changed) (f : c ≡ compositionOf b) (g : p ≡ popped c (length out)) where
   pub pop-is : p ≡ popStep b out
   unfolding popStep
-  pop-is = rw (h, g, f) refl
+  pop-is = rw (g, f) refl
 
   pub pop-ready : (v : Bool) → v ≡ bytesSound b → not v ≡ false → p .comp ≡ holding (p .comp) (used (p .comp))
   pop-ready v e t = tidy-as p (popStep b out) pop-is (pop-tidy b (ok-sound b v e t) out)
 
 -- ---- undo
-module _ (b : List ℕ) (c : Composition) (l : ℕ) (raw : List ℕ) (k : Undone) (p : Step) (f : c ≡ compositionOf b) (g : k ≡ undoTelex c l raw) (h : p ≡ undoneStep k) where
+module _ (b : List ℕ) (c : Composition) (l : ℕ) (raw : List ℕ) (k : Undone) (p : Changed) (f : c ≡ compositionOf b) (g : k ≡ undoTelex c l raw) (h : p ≡ undoneStep k) where
   pub undo-is : p ≡ undoStep b l raw
   unfolding undoStep
   undo-is = rw (h, g, f) refl
@@ -110,28 +122,15 @@ module _ (b : List ℕ) (c : Composition) (l : ℕ) (raw : List ℕ) (k : Undone
   pub undo-ready : (v : Bool) → v ≡ bytesSound b → not v ≡ false → p .comp ≡ holding (p .comp) (used (p .comp))
   undo-ready v e t = tidy-as p (undoStep b l raw) undo-is (undo-step-tidy b (ok-sound b v e t) l raw)
 
--- ---- outputs
-module _ (b out new : List ℕ) (c : Composition) (v : Bool) (e : v ≡ bytesSound b) (t : not v ≡ false) (f : c ≡ compositionOf b) where
-  pub key-out : (l : ℕ) → new ≡ keyOut c l out → new ≡ outOn b out (keyOut (compositionOf b) l out)
-  unfolding outOn
-  key-out l h = rw (← e, not-false v t, ← f) h
-
-  pub pop-out : new ≡ popOut c out → new ≡ outOn b out (popOut (compositionOf b) out)
-  unfolding outOn
-  pop-out h = rw (← e, not-false v t, ← f) h
-
-  pub text-out : new ≡ textOut c out → new ≡ outOn b out (textOut (compositionOf b) out)
-  unfolding outOn
-  text-out h = rw (← e, not-false v t, ← f) h
-
+-- ---- the text
 module _ (b : List ℕ) (n : ℕ) (v : Bool) (e : v ≡ bytesSound b) where
   pub unsound-text : not v ≡ true → Refused Unsound ≡ textOn b n
   unfolding textOn
   unsound-text t = rw (← e, not-true v t) refl
 
-  pub sound-text : (c : Composition) (w : Written) (r : Answer) → not v ≡ false → c ≡ compositionOf b → w ≡ textAnswer c n → r ≡ writtenAnswer w → r ≡ textOn b n
+  pub sound-text : (c : Composition) (r : Answer) → not v ≡ false → c ≡ compositionOf b → r ≡ answer (textOutcome c) n → r ≡ textOn b n
   unfolding textOn
-  sound-text c w r t f g h = rw (← e, not-false v t, ← f, ← g) h
+  sound-text c r t f g = rw (← e, not-false v t, ← f) g
 
 -- ---- methods and modes by their numbers
 both-refuse : (s : Bool) → Refused Unsound ≡ pick s (Refused Unsound) (Refused Unsound)
@@ -139,11 +138,11 @@ both-refuse true = refl
 both-refuse false = refl
 
 module _ (b : List ℕ) (n : ℕ) (l : 1 < n) where
-  or-refused : (s : Step) → Refused Unsound ≡ answerOn b (orUnsound b n s)
+  or-refused : (s : Changed) → Refused Unsound ≡ answerOn b (orUnsound b n s)
   unfolding answerOn orUnsound
   or-refused s = rw (lt-leb n 1 l) (both-refuse (bytesSound b))
 
-  or-kept : (s : Step) → b ≡ bytesOn b (orUnsound b n s)
+  or-kept : (s : Changed) → b ≡ bytesOn b (orUnsound b n s)
   unfolding bytesOn
   or-kept s = rw (← or-refused s) refl
 
@@ -163,19 +162,19 @@ module _ (b : List ℕ) (n : ℕ) (l : 1 < n) where
   unfolding modeStep
   no-mode-bytes = or-kept _
 
-module _ (b : List ℕ) (n : ℕ) (c : Composition) (k : Changed) (p : Step) (l : n ≤ 1) (f : c ≡ compositionOf b) (h : p ≡ changedStep k) where
-  module _ (m : InputMethod) (i : m ≡ methodOf n) (g : k ≡ methodSet c m) where
+module _ (b : List ℕ) (n : ℕ) (c : Composition) (p : Changed) (l : n ≤ 1) (f : c ≡ compositionOf b) where
+  module _ (m : InputMethod) (i : m ≡ methodOf n) (g : p ≡ methodSet c m) where
     pub method-is : p ≡ methodStep b n
     unfolding methodStep orUnsound
-    method-is = rw (le-leb n 1 l, h, g, i, f) refl
+    method-is = rw (le-leb n 1 l, g, i, f) refl
 
     pub method-ready : (v : Bool) → v ≡ bytesSound b → not v ≡ false → p .comp ≡ holding (p .comp) (used (p .comp))
     method-ready v e t = tidy-as p (methodStep b n) method-is (method-tidy b (ok-sound b v e t) n)
 
-  module _ (g : k ≡ enabledSet c (eqb n 0)) where
+  module _ (g : p ≡ enabledSet c (eqb n 0)) where
     pub mode-is : p ≡ modeStep b n
     unfolding modeStep orUnsound
-    mode-is = rw (le-leb n 1 l, h, g, f) refl
+    mode-is = rw (le-leb n 1 l, g, f) refl
 
     pub mode-ready : (v : Bool) → v ≡ bytesSound b → not v ≡ false → p .comp ≡ holding (p .comp) (used (p .comp))
     mode-ready v e t = tidy-as p (modeStep b n) mode-is (mode-tidy b (ok-sound b v e t) n)

@@ -11,11 +11,11 @@ use Rattle.p0_refusals.specs.declared.Answer.{Answer}
 use Rattle.p0_refusals.specs.declared.Answer.the-variants.{Done, Refused}
 use Rattle.p2_input_method.specs.declared.InputMethod.{InputMethod}
 use Rattle.p3_cells.specs.Cells.{limit, isSound, used}
+use Rattle.p3_cells.specs.declared.Changed.{Changed}
 use Rattle.p3_cells.specs.declared.Composition.{Composition}
 use Rattle.p3_cells.proofs.Holding.{count-fits, length-holding}
 use Rattle.p3_calls.proofs.Kept.{new-sound, reset-sound, set-method-sound, set-enabled-sound, literal-sound, pop-sound}
 use Rattle.p3_calls.specs.Settings.{created}
-use Rattle.p3_key.specs.Process.{keyed}
 use Rattle.p3_key.proofs.Kept.{key-sound}
 use Rattle.p3_undo.proofs.Kept.{undo-sound}
 use Rattle.p6_bytes.specs.Bytes.{compositionOf, methodOf, bytesOf, bytesSound}
@@ -23,9 +23,8 @@ use Rattle.p6_bytes.proofs.Reading.{cells-length}
 use Rattle.p6_bytes.proofs.Round.{written-sound}
 use Rattle.p6_bytes.proofs.Sound.{sound-composition}
 use Rattle.p6_bytes.proofs.Writing.{tidy-count}
-use Rattle.p6_composition.specs.Steps.{keyedStep, changedStep, poppedStep, undoneStep}
+use Rattle.p6_composition.specs.Steps.{undoneStep}
 use Rattle.p6_composition.specs.Calls.{answerOn, after, bytesOn, keyStep, resetStep, literalStep, popStep, undoStep, orUnsound, methodStep, modeStep}
-use Rattle.p6_composition.specs.declared.Step.{Step}
 use Rattle.p6_composition.proofs.Tidy.{Tidy, created-tidy, key-tidy, reset-tidy, literal-tidy, pop-tidy, undo-step-tidy, method-tidy, mode-tidy}
 
 -- a sound composition with blank cells past its count has all its places
@@ -43,7 +42,7 @@ after-sound (Done n) b d h t s = form-sound d t s
 after-sound (Refused r) b d h t s = h
 
 module _ (b : List ℕ) (h : bytesSound b ≡ true) where
-  on-sound : (s : Step) → Tidy (s .comp) → isSound (s .comp) ≡ true → bytesSound (bytesOn b s) ≡ true
+  on-sound : (s : Changed) → Tidy (s .comp) → isSound (s .comp) ≡ true → bytesSound (bytesOn b s) ≡ true
   unfolding bytesOn
   on-sound s t k = after-sound (answerOn b s) b (s .comp) h t k
 
@@ -51,39 +50,39 @@ module _ (b : List ℕ) (h : bytesSound b ≡ true) where
   unfolding compositionOf
   full = cells-length limit b 3
 
-  or-sound : (n : ℕ) (p : Step) → isSound (p .comp) ≡ true → isSound (orUnsound b n p .comp) ≡ true
+  or-sound : (n : ℕ) (p : Changed) → isSound (p .comp) ≡ true → isSound (orUnsound b n p .comp) ≡ true
   unfolding orUnsound
-  or-sound n p e = pick-both (λ (q : Step). isSound (q .comp) ≡ true) (leb n 1) p _ (λ l. e) (λ l. sound-composition b h)
+  or-sound n p e = pick-both (λ (q : Changed). isSound (q .comp) ≡ true) (leb n 1) p _ (λ l. e) (λ l. sound-composition b h)
 
   sound : isSound (compositionOf b) ≡ true
   sound = sound-composition b h
 
   key-step : (key : ℕ) (out : List ℕ) → isSound (keyStep b key out .comp) ≡ true
-  unfolding keyStep keyedStep keyed
+  unfolding keyStep
   key-step key out = key-sound (compositionOf b) key (length out) sound full
 
   reset-step : isSound (resetStep b .comp) ≡ true
-  unfolding resetStep changedStep
+  unfolding resetStep
   reset-step = reset-sound (compositionOf b) sound
 
   literal-step : (l : ℕ) → isSound (literalStep b l .comp) ≡ true
-  unfolding literalStep changedStep
+  unfolding literalStep
   literal-step l = literal-sound (compositionOf b) sound full l
 
   pop-step : (out : List ℕ) → isSound (popStep b out .comp) ≡ true
-  unfolding popStep poppedStep
-  pop-step out = pop-sound (compositionOf b) sound full out
+  unfolding popStep
+  pop-step out = pop-sound (compositionOf b) sound full (length out)
 
   undo-step : (t : ℕ) (raw : List ℕ) → isSound (undoStep b t raw .comp) ≡ true
   unfolding undoStep undoneStep
   undo-step t raw = undo-sound (compositionOf b) sound full t raw
 
   method-step : (m : ℕ) → isSound (methodStep b m .comp) ≡ true
-  unfolding methodStep changedStep
+  unfolding methodStep
   method-step m = or-sound m _ (set-method-sound (compositionOf b) sound (methodOf m))
 
   mode-step : (o : ℕ) → isSound (modeStep b o .comp) ≡ true
-  unfolding modeStep changedStep
+  unfolding modeStep
   mode-step o = or-sound o _ (set-enabled-sound (compositionOf b) sound (eqb o 0))
 
   pub key-kept : (key : ℕ) (out : List ℕ) → bytesSound (bytesOn b (keyStep b key out)) ≡ true

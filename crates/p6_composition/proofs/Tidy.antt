@@ -7,26 +7,23 @@ use lib.Dec.{ltb, eqb, leb}
 use lib.ListN.{length}
 use Rattle.p0_choice.specs.Choice.{pick}
 use Rattle.p0_choice.proofs.Choices.{pick-both}
-use Rattle.p0_refusals.specs.declared.Answer.the-variants.{Refused}
+use Rattle.p0_refusals.specs.declared.Answer.{Answer}
 use Rattle.p0_refusals.specs.declared.Refusal.the-variants.{Foreign, Long, Unsound}
 use Rattle.p1_letters.specs.Alphabet.{inAlphabet, allLetters, asciiLower}
 use Rattle.p2_input_method.specs.declared.InputMethod.{InputMethod}
 use Rattle.p3_cells.specs.Cells.{limit, isSound, used, holding}
-use Rattle.p3_cells.specs.Written.{unless}
 use Rattle.p3_cells.specs.declared.Cell.{Cell}
 use Rattle.p3_cells.specs.declared.Composition.{Composition}
 use Rattle.p3_cells.specs.declared.Mode.{Mode}
-use Rattle.p3_cells.specs.declared.Written.{Written}
-use Rattle.p3_cells.specs.declared.Written.the-variants.{Wrote, Refused as NotWritten}
+use Rattle.p3_cells.specs.Leaving.{changed}
+use Rattle.p3_cells.specs.declared.Changed.{Changed}
+use Rattle.p3_cells.proofs.Leaving.{changed-keeps}
 use Rattle.p3_cells.proofs.Holding.{used-holding, holding-used}
 use Rattle.p3_cells.specs.declared.Mode.the-variants.{Vietnamese, English}
-use Rattle.p3_key.specs.Process.{inMode, next, keyAnswer, keyComposition, keyed}
-use Rattle.p3_calls.specs.Answer.{changed}
-use Rattle.p3_calls.specs.Literal.{literalAnswer, literal}
-use Rattle.p3_calls.specs.Output.{left, popAnswer, popped}
-use Rattle.p3_calls.specs.Settings.{empty, created, soundAnswer, resetTo, methodSet, turned, enabledSet}
-use Rattle.p3_calls.specs.declared.Answer.{Answer as Told}
-use Rattle.p3_calls.specs.declared.Answer.the-variants.{Done as Changes, Refused as Keeps}
+use Rattle.p3_key.specs.Process.{inMode, next, keyNext, keyed}
+use Rattle.p3_calls.specs.Literal.{literal}
+use Rattle.p3_calls.specs.Output.{popped}
+use Rattle.p3_calls.specs.Settings.{empty, created, resetTo, methodSet, turned, enabledSet}
 use Rattle.p3_undo.specs.Call.{rawLimit, refused, undoFound, undoTelex}
 use Rattle.p3_undo.specs.Raw.{lowered}
 use Rattle.p3_undo.specs.Undo.{toUndo, undone}
@@ -36,9 +33,8 @@ use Rattle.p3_undo.specs.declared.Undone.{Undone}
 use Rattle.p6_bytes.specs.Bytes.{compositionOf, bytesSound, methodOf}
 use Rattle.p6_bytes.proofs.Sound.{sound-composition}
 use Rattle.p6_bytes.proofs.Reading.{cells-length}
-use Rattle.p6_composition.specs.Steps.{keyedStep, changedStep, poppedStep, undoneStep}
+use Rattle.p6_composition.specs.Steps.{undoneStep}
 use Rattle.p6_composition.specs.Calls.{keyStep, resetStep, literalStep, popStep, undoStep, orUnsound, methodStep, modeStep}
-use Rattle.p6_composition.specs.declared.Step.{Step}
 
 abbrev pub Tidy : Composition → Type 0
 Tidy c = c ≡ holding c (used c)
@@ -58,19 +54,13 @@ pub read-tidy : (b : List ℕ) → bytesSound b ≡ true → Tidy (compositionOf
 unfolding compositionOf
 read-tidy b s = holding-used (compositionOf b) (sound-composition b s) (cells-length limit b 3)
 
-changed-tidy : (a : Told) (c d : Composition) → Tidy c → Tidy d → Tidy (changed a c d .comp)
-unfolding changed
-changed-tidy Changes c d p q = q
-changed-tidy (Keeps r) c d p q = p
+changed-tidy : (a : Answer) (c d : Composition) → Tidy c → Tidy d → Tidy (changed a c d .comp)
+changed-tidy a c d p q = changed-keeps Tidy a c d p (λ n e. q)
 
 turned-tidy : (c : Composition) (on : Bool) → Tidy c → Tidy (turned c on)
 unfolding turned holding used
 turned-tidy c true e = ap (λ (d : Composition). record { cells = d .cells; method = c .method; mode = turned c true .mode; count = d .count }) e
 turned-tidy c false e = empty-tidy (c .method) _
-
-unless-tidy : (w : Written) (c d : Composition) → Tidy c → Tidy d → Tidy (unless w c d)
-unless-tidy (Wrote n) c d p q = q
-unless-tidy (NotWritten r) c d p q = p
 
 mode-either : (o : Mode) (c d : Composition) → Tidy c → Tidy d → Tidy (inMode o c d)
 mode-either Vietnamese c d p q = p
@@ -98,39 +88,39 @@ created-tidy m = empty-tidy m _
 
 -- ---- what each call leaves of sound bytes
 module _ (b : List ℕ) (s : bytesSound b ≡ true) where
-  or-tidy : (n : ℕ) (p : Step) → Tidy (p .comp) → Tidy (orUnsound b n p .comp)
+  or-tidy : (n : ℕ) (p : Changed) → Tidy (p .comp) → Tidy (orUnsound b n p .comp)
   unfolding orUnsound
-  or-tidy n p e = pick-both (λ (q : Step). Tidy (q .comp)) (leb n 1) p _ (λ h. e) (λ h. read-tidy b s)
+  or-tidy n p e = pick-both (λ (q : Changed). Tidy (q .comp)) (leb n 1) p _ (λ h. e) (λ h. read-tidy b s)
 
   pub key-tidy : (key : ℕ) (out : List ℕ) → Tidy (keyStep b key out .comp)
-  unfolding keyStep keyedStep keyed keyComposition
+  unfolding keyStep keyed keyNext
   key-tidy key out =
-      unless-tidy (keyAnswer (compositionOf b) key (length out)) (compositionOf b) _ (read-tidy b s)
+      changed-tidy _ (compositionOf b) _ (read-tidy b s)
       (mode-either (compositionOf b .mode) _ (compositionOf b) (holding-tidy (compositionOf b) (next (compositionOf b) key)) (read-tidy b s))
 
   pub reset-tidy : Tidy (resetStep b .comp)
-  unfolding resetStep changedStep resetTo
-  reset-tidy = changed-tidy (soundAnswer (compositionOf b)) (compositionOf b) _ (read-tidy b s) (empty-tidy _ _)
+  unfolding resetStep resetTo
+  reset-tidy = changed-tidy _ (compositionOf b) _ (read-tidy b s) (empty-tidy _ _)
 
   pub literal-tidy : (l : ℕ) → Tidy (literalStep b l .comp)
-  unfolding literalStep changedStep literal
-  literal-tidy l = changed-tidy (literalAnswer (compositionOf b) l) (compositionOf b) _ (read-tidy b s) (holding-tidy (compositionOf b) _)
+  unfolding literalStep literal
+  literal-tidy l = changed-tidy _ (compositionOf b) _ (read-tidy b s) (holding-tidy (compositionOf b) _)
 
   pub pop-tidy : (out : List ℕ) → Tidy (popStep b out .comp)
-  unfolding popStep poppedStep popped
-  pop-tidy out = unless-tidy (popAnswer (compositionOf b) (length out)) (compositionOf b) _ (read-tidy b s) (holding-tidy (compositionOf b) _)
+  unfolding popStep popped
+  pop-tidy out = changed-tidy _ (compositionOf b) _ (read-tidy b s) (holding-tidy (compositionOf b) _)
 
   pub undo-step-tidy : (t : ℕ) (raw : List ℕ) → Tidy (undoStep b t raw .comp)
   unfolding undoStep undoneStep
   undo-step-tidy t raw = undo-tidy (compositionOf b) t raw (read-tidy b s)
 
   pub method-tidy : (m : ℕ) → Tidy (methodStep b m .comp)
-  unfolding methodStep changedStep methodSet
-  method-tidy m = or-tidy m _ (changed-tidy (soundAnswer (compositionOf b)) (compositionOf b) _ (read-tidy b s) (empty-tidy _ _))
+  unfolding methodStep methodSet
+  method-tidy m = or-tidy m _ (changed-tidy _ (compositionOf b) _ (read-tidy b s) (empty-tidy _ _))
 
   pub mode-tidy : (o : ℕ) → Tidy (modeStep b o .comp)
-  unfolding modeStep changedStep enabledSet
-  mode-tidy o = or-tidy o _ (changed-tidy (soundAnswer (compositionOf b)) (compositionOf b) _ (read-tidy b s) (turned-tidy (compositionOf b) (eqb o 0) (read-tidy b s)))
+  unfolding modeStep enabledSet
+  mode-tidy o = or-tidy o _ (changed-tidy _ (compositionOf b) _ (read-tidy b s) (turned-tidy (compositionOf b) (eqb o 0) (read-tidy b s)))
 
-pub tidy-as : (p s : Step) → p ≡ s → Tidy (s .comp) → Tidy (p .comp)
+pub tidy-as : (p s : Changed) → p ≡ s → Tidy (s .comp) → Tidy (p .comp)
 tidy-as p s e h = rw e h

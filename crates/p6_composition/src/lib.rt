@@ -2,48 +2,22 @@
 // makes the call by value, and where that is done writes the composition back; after a refusal not a byte has changed.
 ghost use mathlib.Core.Path.{_≡_};
 ghost use lib.ListN.{length};
-ghost use Rattle.p3_calls.specs.Output.{textOut, popOut};
+ghost use Rattle.p3_calls.specs.Output.{textOutcome, popOutcome};
 ghost use Rattle.p3_cells.specs.Cells.{used, holding};
-ghost use Rattle.p3_key.specs.Process.{keyOut};
+ghost use Rattle.p3_key.specs.Process.{keyOutcome};
 ghost use Rattle.p6_bytes.specs.Bytes.{size, compositionOf, methodOf};
-ghost use Rattle.p6_composition.specs.Steps.{writtenAnswer, changedAnswer, undoAnswer, keyedStep, changedStep, poppedStep, undoneStep};
+ghost use Rattle.p6_composition.specs.Steps.{undoAnswer, undoneStep};
 ghost use Rattle.p6_composition.specs.Calls.{answerOn, after, bytesOn, outOn, keyStep, resetStep, literalStep, popStep, undoStep, methodStep, modeStep, textOn, newOn, newBytes};
 use p0_refusals::Answer;
 use p0_refusals::Refusal;
 use p2_input_method::InputMethod;
 use p3_calls as calls;
-use p3_calls::Changed;
-use p3_calls::Popped;
-use p3_cells::Composition;
-use p3_cells::Written;
-use p3_key::Keyed;
+use p3_cells::Changed;
 use p3_undo::TelexUndo;
 use p3_undo::Undone;
 use p6_bytes as bytes;
 
-// What a call by value leaves.
-pub struct Step {
-    pub comp: Composition,
-    pub answer: Answer,
-}
-
-fn written_answer(w: Written) -> Answer
-    ensures { λ r. ⌜ r ≡ writtenAnswer w ⌝ }
-{
-    match w {
-        Written::Wrote(n) => Answer::Done(n),
-        Written::Refused(why) => Answer::Refused(why),
-    }
-}
-
-fn changed_answer(a: calls::Answer) -> Answer
-    ensures { λ r. ⌜ r ≡ changedAnswer a ⌝ }
-{
-    match a {
-        calls::Answer::Done => Answer::Done(0),
-        calls::Answer::Refused(why) => Answer::Refused(why),
-    }
-}
+// ---- undo's answer as the other calls': a number is told, or a refusal
 
 fn undo_answer(u: TelexUndo) -> Answer
     ensures { λ r. ⌜ r ≡ undoAnswer u ⌝ }
@@ -55,51 +29,24 @@ fn undo_answer(u: TelexUndo) -> Answer
     }
 }
 
-fn keyed_step(k: Keyed) -> Step
-    ensures { λ r. ⌜ r ≡ keyedStep k ⌝ }
-{
-    let d = k.comp;
-    let a = k.answer;
-    let answer = written_answer(a);
-    Step { comp: d, answer }
-}
-
-fn changed_step(k: Changed) -> Step
-    ensures { λ r. ⌜ r ≡ changedStep k ⌝ }
-{
-    let d = k.comp;
-    let a = k.answer;
-    let answer = changed_answer(a);
-    Step { comp: d, answer }
-}
-
-fn popped_step(k: Popped) -> Step
-    ensures { λ r. ⌜ r ≡ poppedStep k ⌝ }
-{
-    let d = k.comp;
-    let a = k.answer;
-    let answer = written_answer(a);
-    Step { comp: d, answer }
-}
-
-fn undone_step(k: Undone) -> Step
+fn undone_step(k: Undone) -> Changed
     ensures { λ r. ⌜ r ≡ undoneStep k ⌝ }
 {
     let d = k.comp;
     let a = k.answer;
     let answer = undo_answer(a);
-    Step { comp: d, answer }
+    Changed { comp: d, answer }
 }
 
 // Writes the composition back where the call is done.
-fn finish(s: Step, state: &mut [u8]) -> Answer
-    requires { ⌜ (length (now state) ≡ size) × (s .comp ≡ holding (s .comp) (used (s .comp))) ⌝ }
-    ensures { λ r. ⌜ (r ≡ s .answer) × (now (state .exit) ≡ after (s .answer) (now (state .entry)) (s .comp)) ⌝ }
+fn finish(k: Changed, state: &mut [u8]) -> Answer
+    requires { ⌜ (length (now state) ≡ size) × (k .comp ≡ holding (k .comp) (used (k .comp))) ⌝ }
+    ensures { λ r. ⌜ (r ≡ k .answer) × (now (state .exit) ≡ after (k .answer) (now (state .entry)) (k .comp)) ⌝ }
 {
-    let a = s.answer;
+    let a = k.answer;
     match a {
         Answer::Done(n) => {
-            let d = s.comp;
+            let d = k.comp;
             bytes::encode(d, state);
             Answer::Done(n)
         }
@@ -110,15 +57,14 @@ fn finish(s: Step, state: &mut [u8]) -> Answer
 pub fn process_key(state: &mut [u8], key: u32, out: &mut [u32]) -> Answer
     ensures { λ r. ⌜ (r ≡ answerOn (now (state .entry)) (keyStep (now (state .entry)) key (now (out .entry))))
         × (now (state .exit) ≡ bytesOn (now (state .entry)) (keyStep (now (state .entry)) key (now (out .entry))))
-        × (now (out .exit) ≡ outOn (now (state .entry)) (now (out .entry)) (keyOut (compositionOf (now (state .entry))) key (now (out .entry)))) ⌝ }
+        × (now (out .exit) ≡ outOn (now (state .entry)) (keyOutcome (compositionOf (now (state .entry))) key) (now (out .entry))) ⌝ }
 {
     if !bytes::bytes_ok(state) {
         return Answer::Refused(Refusal::Unsound);
     }
     let c = bytes::decode(state);
     let k = p3_key::process_sound_key(c, key, out);
-    let s = keyed_step(k);
-    finish(s, state)
+    finish(k, state)
 }
 
 pub fn reset(state: &mut [u8]) -> Answer
@@ -130,8 +76,7 @@ pub fn reset(state: &mut [u8]) -> Answer
     }
     let c = bytes::decode(state);
     let k = calls::reset(c);
-    let s = changed_step(k);
-    finish(s, state)
+    finish(k, state)
 }
 
 pub fn append_literal(state: &mut [u8], letter: u32) -> Answer
@@ -143,22 +88,20 @@ pub fn append_literal(state: &mut [u8], letter: u32) -> Answer
     }
     let c = bytes::decode(state);
     let k = calls::append_literal(c, letter);
-    let s = changed_step(k);
-    finish(s, state)
+    finish(k, state)
 }
 
 pub fn pop_last(state: &mut [u8], out: &mut [u32]) -> Answer
     ensures { λ r. ⌜ (r ≡ answerOn (now (state .entry)) (popStep (now (state .entry)) (now (out .entry))))
         × (now (state .exit) ≡ bytesOn (now (state .entry)) (popStep (now (state .entry)) (now (out .entry))))
-        × (now (out .exit) ≡ outOn (now (state .entry)) (now (out .entry)) (popOut (compositionOf (now (state .entry))) (now (out .entry)))) ⌝ }
+        × (now (out .exit) ≡ outOn (now (state .entry)) (popOutcome (compositionOf (now (state .entry)))) (now (out .entry))) ⌝ }
 {
     if !bytes::bytes_ok(state) {
         return Answer::Refused(Refusal::Unsound);
     }
     let c = bytes::decode(state);
     let k = calls::pop_last(c, out);
-    let s = popped_step(k);
-    finish(s, state)
+    finish(k, state)
 }
 
 pub fn undo_telex_transform(state: &mut [u8], trigger: u32, raw: &[u32]) -> Answer
@@ -169,21 +112,20 @@ pub fn undo_telex_transform(state: &mut [u8], trigger: u32, raw: &[u32]) -> Answ
         return Answer::Refused(Refusal::Unsound);
     }
     let c = bytes::decode(state);
-    let k = p3_undo::undo_telex_transform(c, trigger, raw);
-    let s = undone_step(k);
-    finish(s, state)
+    let u = p3_undo::undo_telex_transform(c, trigger, raw);
+    let k = undone_step(u);
+    finish(k, state)
 }
 
 pub fn get_output(state: &[u8], out: &mut [u32]) -> Answer
     ensures { λ r. ⌜ (r ≡ textOn (now (state .entry)) (length (now (out .entry))))
-        × (now (out .exit) ≡ outOn (now (state .entry)) (now (out .entry)) (textOut (compositionOf (now (state .entry))) (now (out .entry)))) ⌝ }
+        × (now (out .exit) ≡ outOn (now (state .entry)) (textOutcome (compositionOf (now (state .entry)))) (now (out .entry))) ⌝ }
 {
     if !bytes::bytes_ok(state) {
         return Answer::Refused(Refusal::Unsound);
     }
     let c = bytes::decode(state);
-    let w = calls::get_output(c, out);
-    written_answer(w)
+    calls::get_output(c, out)
 }
 
 // ---- methods and modes by their numbers
@@ -210,8 +152,7 @@ pub fn set_method(state: &mut [u8], method: u32) -> Answer
     let m = method_of(method);
     let c = bytes::decode(state);
     let k = calls::set_method(c, m);
-    let s = changed_step(k);
-    finish(s, state)
+    finish(k, state)
 }
 
 pub fn set_mode(state: &mut [u8], mode: u32) -> Answer
@@ -226,8 +167,7 @@ pub fn set_mode(state: &mut [u8], mode: u32) -> Answer
     }
     let c = bytes::decode(state);
     let k = calls::set_enabled(c, mode == 0);
-    let s = changed_step(k);
-    finish(s, state)
+    finish(k, state)
 }
 
 // An empty Vietnamese composition, whatever the bytes were.

@@ -2,8 +2,8 @@
 ghost use mathlib.Core.Path.{_≡_};
 ghost use lib.ListN.{length};
 ghost use Rattle.p0_refusals.specs.Answers.{refusalOf};
-ghost use Rattle.p3_calls.specs.Output.{textOut, popOut};
-ghost use Rattle.p3_key.specs.Process.{keyOut};
+ghost use Rattle.p3_calls.specs.Output.{textOutcome, popOutcome};
+ghost use Rattle.p3_key.specs.Process.{keyOutcome};
 ghost use Rattle.p6_bytes.specs.Bytes.{compositionOf, bytesSound};
 ghost use Rattle.p6_composition.specs.Calls.{answerOn, bytesOn, outOn, keyStep, resetStep, literalStep, popStep, undoStep, methodStep, modeStep, textOn, newOn, newBytes};
 ghost use Rattle.p6_host.specs.Counts.{countOut, behaviourOut};
@@ -42,7 +42,7 @@ pub extern "C" fn pasdrongel_key(
 ) -> u32
     ensures { λ r. ⌜ r ≡ refusalOf (answerOn (now (state .entry)) (keyStep (now (state .entry)) key (now (text .entry)))) ⌝ }
     ensures { λ r. ⌜ now (state .exit) ≡ bytesOn (now (state .entry)) (keyStep (now (state .entry)) key (now (text .entry))) ⌝ }
-    ensures { λ r. ⌜ now (text .exit) ≡ outOn (now (state .entry)) (now (text .entry)) (keyOut (compositionOf (now (state .entry))) key (now (text .entry))) ⌝ }
+    ensures { λ r. ⌜ now (text .exit) ≡ outOn (now (state .entry)) (keyOutcome (compositionOf (now (state .entry))) key) (now (text .entry)) ⌝ }
     ensures { λ r. ⌜ now (count .exit) ≡ countOut (answerOn (now (state .entry)) (keyStep (now (state .entry)) key (now (text .entry)))) (now (count .entry)) ⌝ }
 {
     let given = p6_composition::process_key(state, key, text);
@@ -52,7 +52,7 @@ pub extern "C" fn pasdrongel_key(
 #[no_mangle]
 pub extern "C" fn pasdrongel_text(state: &[u8], text: &mut [u32], count: &mut usize) -> u32
     ensures { λ r. ⌜ r ≡ refusalOf (textOn (now (state .entry)) (length (now (text .entry)))) ⌝ }
-    ensures { λ r. ⌜ now (text .exit) ≡ outOn (now (state .entry)) (now (text .entry)) (textOut (compositionOf (now (state .entry))) (now (text .entry))) ⌝ }
+    ensures { λ r. ⌜ now (text .exit) ≡ outOn (now (state .entry)) (textOutcome (compositionOf (now (state .entry)))) (now (text .entry)) ⌝ }
     ensures { λ r. ⌜ now (count .exit) ≡ countOut (textOn (now (state .entry)) (length (now (text .entry)))) (now (count .entry)) ⌝ }
 {
     let given = p6_composition::get_output(state, text);
@@ -76,7 +76,7 @@ pub extern "C" fn pasdrongel_remove_last(
 ) -> u32
     ensures { λ r. ⌜ r ≡ refusalOf (answerOn (now (state .entry)) (popStep (now (state .entry)) (now (text .entry)))) ⌝ }
     ensures { λ r. ⌜ now (state .exit) ≡ bytesOn (now (state .entry)) (popStep (now (state .entry)) (now (text .entry))) ⌝ }
-    ensures { λ r. ⌜ now (text .exit) ≡ outOn (now (state .entry)) (now (text .entry)) (popOut (compositionOf (now (state .entry))) (now (text .entry))) ⌝ }
+    ensures { λ r. ⌜ now (text .exit) ≡ outOn (now (state .entry)) (popOutcome (compositionOf (now (state .entry)))) (now (text .entry)) ⌝ }
     ensures { λ r. ⌜ now (count .exit) ≡ countOut (answerOn (now (state .entry)) (popStep (now (state .entry)) (now (text .entry)))) (now (count .entry)) ⌝ }
 {
     let given = p6_composition::pop_last(state, text);

@@ -1,19 +1,20 @@
 // For a host in Rattle: it lends one composition and finds it altered there. Each call takes the composition whole, hands
 // it to the call by value, stores what comes back, and answers as that call does.
 ghost use mathlib.Core.Path.{_≡_};
-ghost use Rattle.p3_calls.specs.Output.{popped, popOut};
+ghost use lib.ListN.{length};
+ghost use Rattle.p0_refusals.specs.Answers.{output};
+ghost use Rattle.p3_calls.specs.Output.{popOutcome, popped};
 ghost use Rattle.p3_calls.specs.Settings.{resetTo};
-ghost use Rattle.p3_key.specs.Process.{keyed, keyOut};
+ghost use Rattle.p3_key.specs.Process.{keyOutcome, keyed};
 ghost use Rattle.p3_undo.specs.Call.{undoTelex};
-use p3_calls::Answer;
+use p0_refusals::Answer;
 use p3_cells::Composition;
-use p3_cells::Written;
 use p3_undo::TelexUndo;
 
-pub fn process_key(c: &mut Composition, key: u32, out: &mut [u32]) -> Written
-    ensures { λ r. ⌜ (now (c .exit) ≡ keyed (now (c .entry)) key (now (out .entry)) .comp)
-        × (r ≡ keyed (now (c .entry)) key (now (out .entry)) .answer)
-        × (now (out .exit) ≡ keyOut (now (c .entry)) key (now (out .entry))) ⌝ }
+pub fn process_key(c: &mut Composition, key: u32, out: &mut [u32]) -> Answer
+    ensures { λ r. ⌜ (now (c .exit) ≡ keyed (now (c .entry)) key (length (now (out .entry))) .comp)
+        × (r ≡ keyed (now (c .entry)) key (length (now (out .entry))) .answer)
+        × (now (out .exit) ≡ output (keyOutcome (now (c .entry)) key) (now (out .entry))) ⌝ }
 {
     let k = p3_key::process_key(*c, key, out);
     *c = k.comp;
@@ -28,10 +29,10 @@ pub fn reset(c: &mut Composition) -> Answer
     k.answer
 }
 
-pub fn pop_last(c: &mut Composition, out: &mut [u32]) -> Written
-    ensures { λ r. ⌜ (now (c .exit) ≡ popped (now (c .entry)) (now (out .entry)) .comp)
-        × (r ≡ popped (now (c .entry)) (now (out .entry)) .answer)
-        × (now (out .exit) ≡ popOut (now (c .entry)) (now (out .entry))) ⌝ }
+pub fn pop_last(c: &mut Composition, out: &mut [u32]) -> Answer
+    ensures { λ r. ⌜ (now (c .exit) ≡ popped (now (c .entry)) (length (now (out .entry))) .comp)
+        × (r ≡ popped (now (c .entry)) (length (now (out .entry))) .answer)
+        × (now (out .exit) ≡ output (popOutcome (now (c .entry))) (now (out .entry))) ⌝ }
 {
     let k = p3_calls::pop_last(*c, out);
     *c = k.comp;

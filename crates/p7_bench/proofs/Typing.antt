@@ -6,10 +6,11 @@ use native.Mathlib.Omega.{arith}
 use lib.ListN.{length, getD}
 use Rattle.p0_choice.proofs.Choices.{pick-eq, pick-ne}
 use Rattle.p2_input_method.specs.declared.InputMethod.the-variants.{Telex}
+use Rattle.p0_refusals.specs.Answers.{output}
 use Rattle.p3_calls.specs.Settings.{created}
 use Rattle.p3_cells.specs.declared.Composition.{Composition}
-use Rattle.p3_key.specs.Process.{keyed, keyOut}
-use Rattle.p3_key.specs.declared.Keyed.{Keyed}
+use Rattle.p3_key.specs.Process.{keyOutcome, keyed}
+use Rattle.p3_cells.specs.declared.Changed.{Changed}
 use Rattle.p7_bench.specs.Run.{after, lineEnd}
 use Rattle.p7_bench.specs.Typing.{Typed, refusalsOf, press, fresh}
 use Rattle.p7_bench.proofs.Run.{Run, run-start, run-more, run-end}
@@ -33,8 +34,8 @@ module _ (keys d : List ℕ) where
       run = run-more press (fresh d) keys _ _ i h (pick-eq _ _ _ _ _ e (rw n refl)) (t .run);
     }
 
-    pub type-key : (r : Keyed) (more : ℕ) (text' : List ℕ) → (getD keys i 0 ≡ lineEnd → ⊥) → r ≡ keyed c (getD keys i 0) text → more ≡ refusalsOf (r .answer)
-        → more ≤ 1 → text' ≡ keyOut c (getD keys i 0) text → length text' ≡ length text → Typing keys d text' (r .comp) (refused + more) (i + 1)
+    pub type-key : (r : Changed) (more : ℕ) (text' : List ℕ) → (getD keys i 0 ≡ lineEnd → ⊥) → r ≡ keyed c (getD keys i 0) (length text) → more ≡ refusalsOf (r .answer)
+        → more ≤ 1 → text' ≡ output (keyOutcome c (getD keys i 0)) text → length text' ≡ length text → Typing keys d text' (r .comp) (refused + more) (i + 1)
     unfolding press
     type-key r more text' n e f b o l = record {
       few = omega (arith, t .few);

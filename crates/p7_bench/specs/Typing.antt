@@ -1,14 +1,16 @@
 -- A note typed under Telex: the composition at hand, the text that the keys so far left, and how many of them were refused.
 use Prim.Native.Nat.{ℕ, _+_}
 use mathlib.Core.List.{List}
+use lib.ListN.{length}
 use lib.Dec.{eqb}
 use Rattle.p0_choice.specs.Choice.{pick}
 use Rattle.p2_input_method.specs.declared.InputMethod.the-variants.{Telex}
+use Rattle.p0_refusals.specs.Answers.{output}
 use Rattle.p3_calls.specs.Settings.{created}
 use Rattle.p3_cells.specs.declared.Composition.{Composition}
-use Rattle.p3_cells.specs.declared.Written.{Written}
-use Rattle.p3_cells.specs.declared.Written.the-variants.{Wrote, Refused}
-use Rattle.p3_key.specs.Process.{keyed, keyOut}
+use Rattle.p0_refusals.specs.declared.Answer.{Answer}
+use Rattle.p0_refusals.specs.declared.Answer.the-variants.{Done, Refused}
+use Rattle.p3_key.specs.Process.{keyOutcome, keyed}
 use Rattle.p7_bench.specs.Run.{lineEnd}
 
 pub record Typed : Type 0 where
@@ -16,17 +18,17 @@ pub record Typed : Type 0 where
   pub text : List ℕ
   pub refused : ℕ
 
-abbrev pub refusalsOf : Written → ℕ
-refusalsOf (Wrote n) = 0
+abbrev pub refusalsOf : Answer → ℕ
+refusalsOf (Done n) = 0
 refusalsOf (Refused r) = 1
 
 unfoldable pub press : Typed → ℕ → Typed
 press t k =
     pick (eqb k lineEnd) (record { comp = created Telex; text = t .text; refused = t .refused })
     (record {
-      comp = keyed (t .comp) k (t .text) .comp;
-      text = keyOut (t .comp) k (t .text);
-      refused = t .refused + refusalsOf (keyed (t .comp) k (t .text) .answer);
+      comp = keyed (t .comp) k (length (t .text)) .comp;
+      text = output (keyOutcome (t .comp) k) (t .text);
+      refused = t .refused + refusalsOf (keyed (t .comp) k (length (t .text)) .answer);
     })
 
 unfoldable pub fresh : List ℕ → Typed

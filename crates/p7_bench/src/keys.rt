@@ -3,18 +3,18 @@ ghost use mathlib.Core.Path.{_≡_};
 ghost use Prim.Native.Nat.{_≤_};
 ghost use Rattle.p7_bench.specs.Run.{after};
 ghost use Rattle.p7_bench.specs.Typing.{refusalsOf, press, fresh};
+use p0_refusals::Answer;
 use p2_input_method::InputMethod;
 use p3_calls as calls;
-use p3_cells::Written;
 use p3_key as key;
 
 // 1 for a key that is refused, else 0.
-pub fn refusals(given: Written) -> usize
+pub fn refusals(given: Answer) -> usize
     ensures { λ r. ⌜ (r ≡ refusalsOf given) × (r ≤ 1) ⌝ }
 {
     match given {
-        Written::Wrote(_) => 0,
-        Written::Refused(_) => 1,
+        Answer::Done(_) => 0,
+        Answer::Refused(_) => 1,
     }
 }
 

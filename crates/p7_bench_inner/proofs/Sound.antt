@@ -10,7 +10,7 @@ use Rattle.p3_calls.proofs.Kept.{new-sound}
 use Rattle.p3_cells.specs.Cells.{limit, isSound}
 use Rattle.p3_cells.specs.declared.Composition.{Composition}
 use Rattle.p3_key.specs.Process.{keyed}
-use Rattle.p3_key.specs.declared.Keyed.{Keyed}
+use Rattle.p3_cells.specs.declared.Changed.{Changed}
 use Rattle.p3_key.proofs.Kept.{key-sound, key-length}
 
 pub record Ready (c : Composition) : Type 0 where
@@ -21,7 +21,6 @@ pub fresh-ready : (c : Composition) → c ≡ created Telex → Ready c
 unfolding created empty
 fresh-ready c e = rw e (record { sound = new-sound Telex; places = refl })
 
-pub typed-ready : (c : Composition) (k : ℕ) (text : List ℕ) (r : Keyed) → Ready c → r ≡ keyed c k text → Ready (r .comp)
-unfolding keyed
+pub typed-ready : (c : Composition) (k : ℕ) (text : List ℕ) (r : Changed) → Ready c → r ≡ keyed c k (length text) → Ready (r .comp)
 typed-ready c k text r s e =
     rw e (record { sound = key-sound c k (length text) (s .sound) (s .places); places = key-length c k (length text) (s .sound) (s .places) })

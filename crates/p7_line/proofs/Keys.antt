@@ -9,7 +9,7 @@ use lib.ListN.{length, take, drop}
 use lib.Seq.{take-at, length-take-le}
 use borrow.Author.Tests.{le-ltb, ltb-true, ltb-false}
 use Rattle.p0_choice.specs.Choice.{pick}
-use Rattle.p0_refusals.specs.Answers.{Outcome, writes, refuses, answer, onto, output}
+use Rattle.p0_refusals.specs.Answers.{Outcome, writes, refuses, content, answer, onto, output}
 use Rattle.p0_refusals.specs.declared.Answer.{Answer}
 use Rattle.p0_refusals.specs.declared.Answer.the-variants.{Done, Refused}
 use Rattle.p0_refusals.specs.declared.Refusal.{Refusal}
@@ -51,7 +51,7 @@ module _ (s o : List ℕ) (g : Answer) (e : g ≡ answer (reading s) (length o))
       go (refuses w) p h = let k : w ≡ r = cc in p ∙ ap refuses k
 
   read-whole : (n : ℕ) (out : List ℕ) → g ≡ Done n → out ≡ output (reading s) o → (reading s ≡ writes (take n out)) × (n ≤ 256)
-  unfolding answer output
+  unfolding answer content output
   read-whole n out q f = go (reading s) refl (sym q ∙ e) f
     where
       go : (u : Outcome) → reading s ≡ u → Done n ≡ answer u (length o) → out ≡ output u o → (reading s ≡ writes (take n out)) × (n ≤ 256)

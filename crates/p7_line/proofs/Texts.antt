@@ -10,7 +10,7 @@ use lib.Seq.{take-at}
 use borrow.Author.Tests.{le-ltb}
 use Rattle.p0_choice.specs.Choice.{pick}
 use Rattle.p0_choice.specs.Text.{word}
-use Rattle.p0_refusals.specs.Answers.{Outcome, writes, refuses, answer, onto, output}
+use Rattle.p0_refusals.specs.Answers.{Outcome, writes, refuses, content, answer, onto, output}
 use Rattle.p0_refusals.specs.declared.Answer.{Answer}
 use Rattle.p0_refusals.specs.declared.Answer.the-variants.{Done, Refused}
 use Rattle.p0_refusals.specs.declared.Refusal.{Refusal}
@@ -40,7 +40,7 @@ module _ (text : List ℕ) (a : allLetters text ≡ true) (h : length text ≤ 3
 
     module _ (n : ℕ) (out bs : List ℕ) (q : g ≡ Done n) (f : out ≡ output (writing text) o) (t : bs ≡ take n out) where
       text-first : bs ≡ encodeAll text
-      unfolding output
+      unfolding answer content output
       text-first =
           let d = text-done in
           let k : n ≡ length (encodeAll text) = cc in

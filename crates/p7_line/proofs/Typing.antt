@@ -10,24 +10,27 @@ use lib.ListN.{length, getD, take, drop, drop-of-length-le, length-map}
 use lib.Seq.{drop-cons, take-at}
 use borrow.Author.Tests.{lt-ltb, le-ltb, ltb-true, ltb-false}
 use Rattle.p0_choice.specs.Choice.{pick, each}
+use Rattle.p0_refusals.specs.Answers.{Outcome, writes, refuses, answer, content, onto, output}
+use Rattle.p0_refusals.proofs.Answers.{refuses-answer, writes-answer, writes-output}
 use Rattle.p0_refusals.specs.declared.Refusal.{Refusal}
-use Rattle.p0_refusals.specs.declared.Refusal.the-variants.{Full, Short, Foreign, Unsound}
+use Rattle.p0_refusals.specs.declared.Refusal.the-variants.{Full, Foreign, Unsound}
 use Rattle.p1_letters.specs.Alphabet.{inAlphabet, allLetters}
 use Rattle.p2_input_method.specs.declared.InputMethod.{InputMethod}
 use Rattle.p3_cells.specs.Cells.{limit, isCell, isSound, used, holding}
 use Rattle.p3_cells.specs.Text.{shown, textOf}
+use Rattle.p3_cells.specs.Leaving.{changed}
 use Rattle.p3_cells.specs.declared.Cell.{Cell}
 use Rattle.p3_cells.specs.declared.Composition.{Composition}
 use Rattle.p3_cells.specs.declared.Mode.{Mode}
 use Rattle.p3_cells.specs.declared.Mode.the-variants.{Vietnamese}
-use Rattle.p3_cells.specs.declared.Written.{Written}
-use Rattle.p3_cells.specs.declared.Written.the-variants.{Wrote, Refused}
+use Rattle.p0_refusals.specs.declared.Answer.{Answer}
+use Rattle.p0_refusals.specs.declared.Answer.the-variants.{Done, Refused}
 use Rattle.p3_calls.specs.Settings.{empty, created}
 use Rattle.p3_calls.proofs.Kept.{new-sound}
 use Rattle.p3_cells.proofs.Holding.{used-holding, used-length, used-cells, count-fits, length-blanks}
 use Rattle.p3_step.specs.Key.{keyCells}
-use Rattle.p3_key.specs.Process.{inMode, next, written, isFull, keyAnswer, keyComposition, keyOut, keyed}
-use Rattle.p3_key.specs.declared.Keyed.{Keyed}
+use Rattle.p3_key.specs.Process.{inMode, next, written, isFull, keyOutcome, keyNext, keyed}
+use Rattle.p3_cells.specs.declared.Changed.{Changed}
 use Rattle.p3_key.proofs.Kept.{key-length, key-sound}
 use Rattle.p5_utf8_write.proofs.Alphabet.{all-at}
 use Rattle.p7_line.specs.Line.{Typed, made, full, typed, typedLine, refusedLine, textLine}
@@ -39,52 +42,59 @@ module _ (c : Composition) (k : ℕ) (o : List ℕ) (s : isSound c ≡ true) (v 
   unfolding textOf
   text-long = length-map (next c k) shown
 
-  answers : keyAnswer c k (length o) ≡ pick (ltb limit (length (next c k))) (Refused Full) (Wrote (length (next c k)))
-  unfolding keyAnswer isFull written
-  answers = told ∙ ap inAMode v ∙ go (ltb limit (length (next c k))) refl
-    where
-      inAMode : Mode → Written
-      inAMode x =
-          pick (inMode x (ltb limit (length (next c k))) false) (Refused Full)
-          (pick (ltb (length o) (length (inMode x (textOf (next c k)) (k ∷ [])))) (Refused Short) (Wrote (length (inMode x (textOf (next c k)) (k ∷ [])))))
+  -- what there is to write
+  outcome : keyOutcome c k ≡ pick (ltb limit (length (next c k))) (refuses Full) (writes (textOf (next c k)))
+  unfolding keyOutcome isFull written
+  outcome =
+      rw (s, a)
+      (ap (λ (x : Mode). pick (inMode x (ltb limit (length (next c k))) false) (refuses Full) (writes (inMode x (textOf (next c k)) (k ∷ [])))) v)
 
-      told : keyAnswer c k (length o) ≡ inAMode (c .mode)
-      told = rw (s, a) refl
+  full-key : limit < length (next c k) → keyOutcome c k ≡ refuses Full
+  full-key h = outcome ∙ rw (lt-ltb limit (length (next c k)) h) refl
 
-      go : (b : Bool) → ltb limit (length (next c k)) ≡ b
-          → pick b (Refused Full) (pick (ltb (length o) (length (textOf (next c k)))) (Refused Short) (Wrote (length (textOf (next c k)))))
-          ≡ pick b (Refused Full) (Wrote (length (next c k)))
-      go true e = refl
-      go false e =
-          let h = ltb-false limit (length (next c k)) e in
-          rw (text-long, le-ltb (length o) (length (next c k)) (omega arith)) refl
+  done-key : length (next c k) ≤ limit → keyOutcome c k ≡ writes (textOf (next c k))
+  done-key h = outcome ∙ rw (le-ltb limit (length (next c k)) h) refl
+
+  room : length (next c k) ≤ limit → length (textOf (next c k)) ≤ length o
+  room h = rw text-long (omega arith)
 
   -- 2, and nothing else
-  key-full : (r : Refusal) → keyAnswer c k (length o) ≡ Refused r → (limit < length (next c k)) × (r ≡ Full)
-  key-full r q = go (ltb limit (length (next c k))) refl (sym q ∙ answers)
+  key-full : (r : Refusal) → answer (keyOutcome c k) (length o) ≡ Refused r → (limit < length (next c k)) × (r ≡ Full)
+  key-full r q = go (ltb limit (length (next c k))) refl
     where
-      go : (b : Bool) → ltb limit (length (next c k)) ≡ b → Refused r ≡ pick b (Refused Full) (Wrote (length (next c k))) → (limit < length (next c k)) × (r ≡ Full)
-      go true e h = (ltb-true limit (length (next c k)) e, cc)
-      go false e h = let z : _≡_ {A = ℕ} 0 1 = cc in absurd (omega arith)
+      go : (b : Bool) → ltb limit (length (next c k)) ≡ b → (limit < length (next c k)) × (r ≡ Full)
+      go true e =
+          let h = ltb-true limit (length (next c k)) e in
+          let w : Refused Full ≡ Refused r = refuses-answer _ _ (full-key h) (length o) ∙ q in
+          (h, cc)
+      go false e =
+          let h = ltb-false limit (length (next c k)) e in
+          let w : Done (length (textOf (next c k))) ≡ Refused r = writes-answer _ _ (done-key h) (length o) _ (room h) refl ∙ q in
+          let z : _≡_ {A = ℕ} 0 1 = cc in absurd (omega arith)
 
-  key-done : (n : ℕ) → keyAnswer c k (length o) ≡ Wrote n → (length (next c k) ≤ limit) × (n ≡ length (next c k))
-  key-done n q = go (ltb limit (length (next c k))) refl (sym q ∙ answers)
-    where
-      go : (b : Bool) → ltb limit (length (next c k)) ≡ b → Wrote n ≡ pick b (Refused Full) (Wrote (length (next c k))) → (length (next c k) ≤ limit) × (n ≡ length (next c k))
-      go true e h = let z : _≡_ {A = ℕ} 0 1 = cc in absurd (omega arith)
-      go false e h = (ltb-false limit (length (next c k)) e, cc)
+  module _ (n : ℕ) (q : answer (keyOutcome c k) (length o) ≡ Done n) where
+    key-done : length (next c k) ≤ limit
+    key-done = go (ltb limit (length (next c k))) refl
+      where
+        go : (b : Bool) → ltb limit (length (next c k)) ≡ b → length (next c k) ≤ limit
+        go true e =
+            let w : Refused Full ≡ Done n = refuses-answer _ _ (full-key (ltb-true limit (length (next c k)) e)) (length o) ∙ q in
+            let z : _≡_ {A = ℕ} 0 1 = cc in absurd (omega arith)
+        go false e = ltb-false limit (length (next c k)) e
 
-  module _ (n : ℕ) (q : keyAnswer c k (length o) ≡ Wrote n) where
-    key-comp : keyComposition c k (length o) ≡ holding c (next c k)
-    unfolding keyComposition
+    key-count : length (textOf (next c k)) ≡ n
+    key-count =
+        let w : Done (length (textOf (next c k))) ≡ Done n = writes-answer _ _ (done-key key-done) (length o) _ (room key-done) refl ∙ q in
+        cc
+
+    key-comp : keyed c k (length o) .comp ≡ holding c (next c k)
+    unfolding keyed changed keyNext
     key-comp = rw q (ap (λ (x : Mode). inMode x (holding c (next c k)) c) v)
 
-    key-text : take n (keyOut c k o) ≡ textOf (next c k)
-    unfolding keyOut written
+    key-text : take n (output (keyOutcome c k) o) ≡ textOf (next c k)
     key-text =
-        rw q
-        (ap (λ (x : Mode). take n (inMode x (textOf (next c k)) (k ∷ []) ++ drop (length (inMode x (textOf (next c k)) (k ∷ []))) o)) v
-        ∙ take-at (textOf (next c k)) (drop (length (textOf (next c k))) o) n (text-long ∙ sym (key-done n q .1)))
+        rw (← writes-output _ _ (done-key key-done) o _ (room key-done) refl)
+        (take-at (textOf (next c k)) (drop (length (textOf (next c k))) o) n key-count)
 
 method-held : (c : Composition) (xs : List Cell) → holding c xs .method ≡ c .method
 unfolding holding
@@ -125,26 +135,26 @@ module _ (m : InputMethod) (keys : List ℕ) (c : Composition) (text : List ℕ)
     unfolding typed
     turn = t .rest ∙ rw (add-one i, drop-cons keys i 0 h, ← e, ← cells-next) refl
 
-    pub typing-full : (y : Keyed) (r : Refusal) → y ≡ keyed c k text → y .answer ≡ Refused r → (typed m [] keys ≡ full) × (r ≡ Full)
-    unfolding keyed
+    pub typing-full : (y : Changed) (r : Refusal) → y ≡ keyed c k (length text) → y .answer ≡ Refused r → (typed m [] keys ≡ full) × (r ≡ Full)
+    unfolding keyed changed
     typing-full y r d q =
-        let w = key-full c k text (t .sound) (t .mode) letter l r (sym (ap (λ (z : Keyed). z .answer) d) ∙ q) in
+        let w = key-full c k text (t .sound) (t .mode) letter l r (sym (ap (λ (z : Changed). z .answer) d) ∙ q) in
         (turn ∙ rw (lt-ltb limit (length (next c k)) (w .0)) refl, w .1)
 
-    pub typing-on : (y : Keyed) (j : ℕ) (new : List ℕ) → y ≡ keyed c k text → y .answer ≡ Wrote j → new ≡ keyOut c k text → Typing m keys (y .comp) new j (i + 1)
-    unfolding keyed
+    pub typing-on : (y : Changed) (j : ℕ) (new : List ℕ) → y ≡ keyed c k (length text) → y .answer ≡ Done j → new ≡ output (keyOutcome c k) text → Typing m keys (y .comp) new j (i + 1)
+    unfolding keyed changed
     typing-on y j new d q f =
-        let g : keyAnswer c k (length text) ≡ Wrote j = sym (ap (λ (z : Keyed). z .answer) d) ∙ q in
+        let g : answer (keyOutcome c k) (length text) ≡ Done j = sym (ap (λ (z : Changed). z .answer) d) ∙ q in
         let w = key-done c k text (t .sound) (t .mode) letter l j g in
-        let b : y .comp ≡ holding c (next c k) = ap (λ (z : Keyed). z .comp) d ∙ key-comp c k text (t .sound) (t .mode) letter l j g in
+        let b : y .comp ≡ holding c (next c k) = ap (λ (z : Changed). z .comp) d ∙ key-comp c k text (t .sound) (t .mode) letter l j g in
         let u : used (y .comp) ≡ next c k = ap used b ∙ used-holding c (next c k) in
-        let p : y .comp ≡ keyComposition c k (length text) = ap (λ (z : Keyed). z .comp) d in
+        let p : y .comp ≡ keyed c k (length text) .comp = ap (λ (z : Changed). z .comp) d in
         record {
           cells = rw p (key-length c k (length text) (t .sound) (t .cells));
           sound = rw p (key-sound c k (length text) (t .sound) (t .cells));
           method = ap (λ (z : Composition). z .method) b ∙ method-held c (next c k) ∙ t .method;
           mode = ap (λ (z : Composition). z .mode) b ∙ mode-held c (next c k) ∙ t .mode;
-          rest = turn ∙ rw (le-ltb limit (length (next c k)) (w .0), u) refl;
+          rest = turn ∙ rw (le-ltb limit (length (next c k)) w, u) refl;
           shown = rw (f, u) (key-text c k text (t .sound) (t .mode) letter l j g);
         }
 
@@ -159,7 +169,7 @@ module _ (m : InputMethod) (keys : List ℕ) (c₀ : Composition) (e : c₀ ≡ 
   typing-first text = subst (λ (d : Composition). Typing (d .method) keys d text 0 0) (sym e) (typing-start m keys text)
 
   module _ (c : Composition) (text : List ℕ) (n i : ℕ) (t : Typing (c₀ .method) keys c text n i) where
-    pub line-refused : allLetters keys ≡ true → i < length keys → length text ≡ 32 → (k : ℕ) → k ≡ getD keys i 0 → (y : Keyed) (r : Refusal) → y ≡ keyed c k text
+    pub line-refused : allLetters keys ≡ true → i < length keys → length text ≡ 32 → (k : ℕ) → k ≡ getD keys i 0 → (y : Changed) (r : Refusal) → y ≡ keyed c k (length text)
         → y .answer ≡ Refused r → typedLine (typed m [] keys) ≡ refusedLine r
     unfolding typedLine
     line-refused a h l k q y r d f =

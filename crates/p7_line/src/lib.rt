@@ -15,7 +15,6 @@ use p0_refusals::Answer;
 use p0_refusals::Refusal;
 use p0_slices as slices;
 use p2_input_method::InputMethod;
-use p3_cells::Written;
 
 // What the first line says.
 pub enum Begun {
@@ -123,8 +122,8 @@ fn keys_line(m: InputMethod, keys: &[u32], out: &mut [u8], at: usize) -> usize
         let k = p3_key::process_sound_key(c, key, &mut text);
         let given = k.answer;
         match given {
-            Written::Refused(refusal) => return put_refused(refusal, out, at),
-            Written::Wrote(n) => {
+            Answer::Refused(refusal) => return put_refused(refusal, out, at),
+            Answer::Done(n) => {
                 count = n;
                 c = k.comp;
             }

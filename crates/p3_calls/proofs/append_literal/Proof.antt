@@ -1,12 +1,15 @@
 use borrow.Author.Needs.{needs}
+use Rattle.p3_cells.proofs.Leaving.{leaves}
 use Rattle.p3_cells.proofs.Text.{length-under}
-use Rattle.p3_calls.proofs.Literal.{literal-unsound, literal-foreign, literal-full, literal-done}
+use Rattle.p3_calls.specs.Literal.{literal}
+use Rattle.p3_calls.proofs.Literal.{literals}
 use Rattle.p3_calls.proofs.append_literal.Statement.{statement}
 use Rattle.p3_calls.proofs.append_literal.Tie as tie
 
-ruleset answers = (needs, literal-unsound, literal-foreign, literal-full, literal-done, length-under)
+ruleset answers = (needs, leaves, literals, length-under)
 
 pub append-literal-spec : {M : Type 1} → statement M
+unfolding literal
 append-literal-spec =
     tie.close
     (tie.spec

@@ -9,4 +9,4 @@ pub set-method-spec : {M : Type 1} → statement M
 set-method-spec =
     tie.close
     (tie.spec
-    (λ c κs. search answers) (λ c. search answers) (λ c. search answers) (λ c. search answers) (λ c. search answers) (λ c κs. search answers) (λ c κs. search answers) (λ c κs. search answers) (λ c κs. search answers) (λ c κs. search answers) (λ c. search answers) (λ c. search answers))
+    (λ c κs. search answers) (λ c. search answers) (λ c. search answers) (λ c. search answers) (λ c. search answers) (λ c κs. search answers) (λ c κs. search answers) (λ c κs. search answers) (λ c κs. search answers) (λ c. search answers) (λ c. search answers))

@@ -41,16 +41,17 @@ use denote.Triple.Spec.{Meets, tripleOf}
 use denote.Triple.Table.{entered, cited}
 use denote.Triple.Walked.{says, Stays, stay-ref, stay-none, gave-slice, goes-gave-slice, stay-none-slice, goes-none-slice, walkOf, goes-none, goes-ref, Walks, ends-at, walked, walk-meets}
 use denote.Exit.{yes}
-use Rattle.p3_calls.specs.Output.{popped, popOut}
+use Rattle.p3_calls.specs.Output.{popOutcome, popped}
+use Rattle.p0_refusals.specs.Answers.{output}
 use Rattle.p3_cells.specs.declared.Composition.{Composition}
-use Rattle.p3_calls.specs.declared.Popped.{Popped}
-use Rattle.p3_cells.specs.declared.Written.{Written}
+use Rattle.p3_cells.specs.declared.Changed.{Changed}
+use Rattle.p0_refusals.specs.declared.Answer.{Answer}
 use Rattle.p3_cells.proofs.Composition as T
 use Rattle.p3_cells.proofs.Composition.Laws as T′
-use Rattle.p3_cells.proofs.Written as E
-use Rattle.p3_cells.proofs.Written.Laws as E′
-use Rattle.p3_calls.proofs.Popped as S
-use Rattle.p3_calls.proofs.Popped.Laws as S′
+use Rattle.p0_refusals.proofs.Answer as E
+use Rattle.p0_refusals.proofs.Answer.Laws as E′
+use Rattle.p3_cells.proofs.Changed as S
+use Rattle.p3_cells.proofs.Changed.Laws as S′
 use Rattle.p3_calls.proofs.pop_last as callee
 use Rattle.p3_calls.proofs.pop_last.Symbol as callee-def
 use Rattle.p3_calls.proofs.pop_last.Symbol.{name as #p3_calls·pop-last}
@@ -69,7 +70,7 @@ stayed = (stay-ref (0 ∷ []) tt (plain (λ _. T.the-row)), (gave-slice (1 ∷ [
 abbrev mach : Composition → Val
 mach = LL.val T.the-type T′.the-laws
 
-abbrev said-by : Written → Val
+abbrev said-by : Answer → Val
 said-by = LE.val E.the-type E′.the-laws
 
 abbrev Callee : {M : Type 1} (𝓤 : URA M) (H : Heap 𝓤) (A : Atoms 𝓤) (mem : Memory → SProp 𝓤) (run : Routine → Fun 𝓤) → Contract 𝓤
@@ -88,7 +89,7 @@ module _ {M : Type 1} (𝓤 : URA M) (H : Heap 𝓤) (A : Atoms 𝓤) (W : Given
   abbrev Post : Val → SProp 𝓤
   Post = walkOf 𝓤 H A self.ended stayed (self.clauses 𝓤 H A at-mem run) .post (((κ, (κ′, tt)), (q, (q′, tt)), tt, x, at), tt)
 
-  exits : (c : Composition) (k : Written) (zs : List ℕ) → Is E.the-row k (said-by k ∷ []) → length zs ≡ length (y .now) → (c ≡ popped h (y .now) .comp) × (k ≡ popped h (y .now) .answer) × (zs ≡ popOut h (y .now))
+  exits : (c : Composition) (k : Answer) (zs : List ℕ) → Is E.the-row k (said-by k ∷ []) → length zs ≡ length (y .now) → (c ≡ popped h (length (y .now)) .comp) × (k ≡ popped h (length (y .now)) .answer) × (zs ≡ output (popOutcome h) (y .now))
       → ent 𝓤 (⋆ 𝓤 H A (‵ (fobs γ (T.the-row .coded .code c)) ∷ ‵ (fbor κ (Body (mem T.the-row) b o γ)) ∷ ‵ (flft κ q) ∷ (‵ (flft κ′ q′) ⊛ ‵ ftrue) ∷ ‵ (finally u32 (y .name) zs) ∷ [])) (Post (said-by k))
   exits c k zs kf l e =
       qed W (‵ (fobs γ (T.the-row .coded .code c)) ∷ ‵ (fbor κ (Body (mem T.the-row) b o γ)) ∷ ‵ (flft κ q) ∷ (‵ (flft κ′ q′) ⊛ ‵ ftrue) ∷ ‵ (finally u32 (y .name) zs) ∷ []) ∵
@@ -97,10 +98,10 @@ module _ {M : Type 1} (𝓤 : URA M) (H : Heap 𝓤) (A : Atoms 𝓤) (W : Given
       nothing ! $ move ! (2 ∷ 0 ∷ []) $ fjoin ! $ move ! (1 ∷ 0 ∷ []) $ fjoin ! $
       owned ! E.the-row (Is E.the-row) (LE.makes E.the-type E′.the-plain 𝓤 H A) k _ kf $ move ! (1 ∷ 0 ∷ []) $ done !
 
-  made : (r : Popped) (v : Val) → Is S.the-row r (v ∷ []) → Is T.the-row (r .comp) (mach (r .comp) ∷ [])
+  made : (r : Changed) (v : Val) → Is S.the-row r (v ∷ []) → Is T.the-row (r .comp) (mach (r .comp) ∷ [])
   made r v is = LL.owed S.the-type S′.the-laws r _ is .0
 
-  answered : (r : Popped) (v : Val) → Is S.the-row r (v ∷ []) → Is E.the-row (r .answer) (said-by (r .answer) ∷ [])
+  answered : (r : Changed) (v : Val) → Is S.the-row r (v ∷ []) → Is E.the-row (r .answer) (said-by (r .answer) ∷ [])
   answered r v is = LL.owed S.the-type S′.the-laws r _ is .1 .0
 
   abbrev passed : Composition × (RefT (List ℕ) × Unit {0})
@@ -118,8 +119,8 @@ module _ {M : Type 1} (𝓤 : URA M) (H : Heap 𝓤) (A : Atoms 𝓤) (W : Given
   abbrev Lasts : Type 0
   Lasts = Unit {0} × (List ℕ × Unit {0})
 
-  abbrev Ensured : Popped → Lasts → Type 0
-  Ensured r zs = (r ≡ popped h (y .now)) × (zs .1 .0 ≡ popOut h (y .now))
+  abbrev Ensured : Changed → Lasts → Type 0
+  Ensured r zs = (r ≡ popped h (length (y .now))) × (zs .1 .0 ≡ output (popOutcome h) (y .now))
 
   module _ (C : Calls 𝓤 H) (Λ : Loops 𝓤 H) (fm : FmC 𝓤 H (W .laws) C) (known : Triple 𝓤 (C #p3_calls·pop-last) (Callee 𝓤 H A at-mem run)) where
     walk : Room u32 (length (y .now)) → ent 𝓤 (onEntry 𝓤 H A self.signature (κ, (κ′, tt)) (q, (q′, tt)) x at) (WpFn 𝓤 H C Λ code.function (vptr b o ∷ s ∷ []) Post)
@@ -136,7 +137,7 @@ module _ {M : Type 1} (𝓤 : URA M) (H : Heap 𝓤) (A : Atoms 𝓤) (W : Given
         assigns ! (agg ! (and-then ! (load ! (from ! (stop !)) (look ! 9 refl)) (and-then ! (load ! (from ! (fld ! refl (stop !))) (look-in ! 15 (sub ! 1 refl (whole !)))) (no-more !)))) (from ! (stop !)) (init ! 7 refl (tt, (tt, (record { fits = room .0 }, tt)))) $
         move ! (5 ∷ 1 ∷ 6 ∷ []) $ use3 W (raw (Callee 𝓤 H A at-mem run .pre to)) goes $
         calls-at ! fm (Callee 𝓤 H A at-mem run) known to (and-then ! (load ! (from ! (stop !)) (look ! 9 refl)) (and-then ! (load ! (from ! (stop !)) (look ! 5 refl)) (no-more !))) (λ v.
-        use1 W (later (some (λ (r : Popped). ((‵ (flft κ′ q′) ⊛ ‵ ftrue) ⊛ ‵ (S.the-row .own r (v ∷ []))) ⊛ raw (ensured 𝓤 H A callee.ended (callee.clauses 𝓤 H A at-mem run) (κ′, tt) passed tt r)))) (id⊢ 𝓤 _) $ await ! tt $ pick ! (λ r.
+        use1 W (later (some (λ (r : Changed). ((‵ (flft κ′ q′) ⊛ ‵ ftrue) ⊛ ‵ (S.the-row .own r (v ∷ []))) ⊛ raw (ensured 𝓤 H A callee.ended (callee.clauses 𝓤 H A at-mem run) (κ′, tt) passed tt r)))) (id⊢ 𝓤 _) $ await ! tt $ pick ! (λ r.
         split ! $ move ! (1 ∷ []) $ use1 W (some (λ (zs : Lasts). ‵ (lasts callee.ended (κ′, tt) passed zs) ⊛ raw (fact 𝓤 (Ensured r zs)))) (id⊢ 𝓤 _) $ pick ! (λ zs.
         split ! $ move ! (1 ∷ []) $ heard ! (Ensured r zs) (λ e. fsplit ! $ drop ! $ fsplit ! $ fsplit ! $ move ! (1 ∷ []) $ feqL ! (λ l.
         move ! (2 ∷ []) $ split ! $ move ! (1 ∷ []) $ peeks ! S.the-row (Is S.the-row) (shows 𝓤 H A S.the-row) r (v ∷ []) (λ is.

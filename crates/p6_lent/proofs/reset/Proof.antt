@@ -43,14 +43,14 @@ use denote.Triple.Walked.{says, Stays, stay-ref, stay-none, gave-slice, goes-gav
 use denote.Exit.{yes}
 use Rattle.p3_calls.specs.Settings.{resetTo}
 use Rattle.p3_cells.specs.declared.Composition.{Composition}
-use Rattle.p3_calls.specs.declared.Changed.{Changed}
-use Rattle.p3_calls.specs.declared.Answer.{Answer}
+use Rattle.p3_cells.specs.declared.Changed.{Changed}
+use Rattle.p0_refusals.specs.declared.Answer.{Answer}
 use Rattle.p3_cells.proofs.Composition as T
 use Rattle.p3_cells.proofs.Composition.Laws as T′
-use Rattle.p3_calls.proofs.Answer as E
-use Rattle.p3_calls.proofs.Answer.Laws as E′
-use Rattle.p3_calls.proofs.Changed as S
-use Rattle.p3_calls.proofs.Changed.Laws as S′
+use Rattle.p0_refusals.proofs.Answer as E
+use Rattle.p0_refusals.proofs.Answer.Laws as E′
+use Rattle.p3_cells.proofs.Changed as S
+use Rattle.p3_cells.proofs.Changed.Laws as S′
 use Rattle.p3_calls.proofs.reset as callee
 use Rattle.p3_calls.proofs.reset.Symbol as callee-def
 use Rattle.p3_calls.proofs.reset.Symbol.{name as #p3_calls·reset}

@@ -1,0 +1,42 @@
+-- What a call leaves, given what it has to write; and what holds of the composition that it leaves.
+use Prim.Native.Nat.{ℕ, _<_, _≤_}
+use mathlib.Core.Path.{_≡_, refl}
+use mathlib.Core.List.{List, []}
+use native.Mathlib.Omega.{arith}
+use lib.ListN.{length}
+use Rattle.p0_refusals.specs.Answers.{Outcome, writes, refuses, answer, unless}
+use Rattle.p0_refusals.specs.declared.Answer.{Answer}
+use Rattle.p0_refusals.specs.declared.Answer.the-variants.{Done, Refused}
+use Rattle.p0_refusals.specs.declared.Refusal.{Refusal}
+use Rattle.p0_refusals.specs.declared.Refusal.the-variants.{Short}
+use Rattle.p0_refusals.proofs.Answers.{refuses-answer, short-answer, writes-answer}
+use Rattle.p3_cells.specs.declared.Composition.{Composition}
+use Rattle.p3_cells.specs.declared.Changed.{Changed}
+use Rattle.p3_cells.specs.Leaving.{changed, refused}
+
+-- the composition is c before, and d where the call is done; n places are lent
+module _ (w : Outcome) (c d : Composition) (n : ℕ) where
+  pub changed-refused : (r : Refusal) (k : Changed) → w ≡ refuses r → k ≡ refused c r → k ≡ changed (answer w n) c d
+  unfolding changed
+  changed-refused r k q e = rw (← refuses-answer w r q n) e
+
+  pub changed-short : (xs : List ℕ) (k : Changed) → w ≡ writes xs → n < length xs → k ≡ refused c Short → k ≡ changed (answer w n) c d
+  unfolding changed
+  changed-short xs k q h e = rw (← short-answer w xs q n h) e
+
+  pub changed-done : (xs : List ℕ) (e : Composition) (k : ℕ) → w ≡ writes xs → length xs ≤ n → k ≡ length xs → e ≡ d
+      → record { comp = e; answer = Done k } ≡ changed (answer w n) c d
+  unfolding changed
+  changed-done xs e k q h l f = rw (← writes-answer w xs q n k h l, f) refl
+
+  -- a call that writes nothing
+  pub changed-nothing : (e : Composition) → w ≡ writes [] → e ≡ d → record { comp = e; answer = Done 0 } ≡ changed (answer w n) c d
+  changed-nothing e q f = changed-done [] e 0 q (omega arith) refl f
+
+pub ruleset leaves = (changed-refused, changed-short, changed-done, changed-nothing)
+
+-- what holds of the composition before, and of that of a call that is done, holds after
+pub changed-keeps : (P : Composition → Type 0) (a : Answer) (c d : Composition) → P c → ((n : ℕ) → a ≡ Done n → P d) → P (changed a c d .comp)
+unfolding changed
+changed-keeps P (Done n) c d old new = new n refl
+changed-keeps P (Refused r) c d old new = old
