@@ -5,23 +5,23 @@ ghost use Prim.Native.Nat.{_+_, _≤_};
 ghost use lib.ListN.{length, take, drop};
 
 // The first n letters, or all where there are fewer.
-pub fn first(s: &[u32], n: usize) -> &[u32]
-    ensures { λ r. ⌜ now r ≡ take n (now (s .entry)) ⌝ }
+pub fn first(letters: &[u32], n: usize) -> &[u32]
+    ensures { λ r. ⌜ now r ≡ take n (now (letters .entry)) ⌝ }
 {
-    if s.len() < n {
-        return s;
+    if letters.len() < n {
+        return letters;
     }
-    &s[..n]
+    &letters[..n]
 }
 
 // The first n bytes, or all where there are fewer.
-pub fn first_bytes(s: &[u8], n: usize) -> &[u8]
-    ensures { λ r. ⌜ now r ≡ take n (now (s .entry)) ⌝ }
+pub fn first_bytes(bytes: &[u8], n: usize) -> &[u8]
+    ensures { λ r. ⌜ now r ≡ take n (now (bytes .entry)) ⌝ }
 {
-    if s.len() < n {
-        return s;
+    if bytes.len() < n {
+        return bytes;
     }
-    &s[..n]
+    &bytes[..n]
 }
 
 // Writes bytes at a place, and gives the place after them.

@@ -14,7 +14,7 @@ use Rattle.p0_choice.specs.Text.{word}
 use Rattle.p1_letters.specs.Alphabet.{inAlphabet}
 use Rattle.p2_input_method.specs.Rules.{toneKeys, isToneKey}
 use Rattle.p2_input_method.specs.declared.InputMethod.the-variants.{Telex, Vni}
-use Rattle.p3_cells.specs.Cells.{limit, blank, isBlank, marks, tones, markFits, toneFits, isCell, fitsAt, isSound}
+use Rattle.p3_cells.specs.Cells.{limit, blank, isBlank, weightOf, marks, tones, markFits, toneFits, isCell, fitsAt, isSound}
 use Rattle.p3_cells.specs.declared.Cell.{Cell}
 use Rattle.p3_cells.specs.declared.Composition.{Composition}
 use Rattle.p3_cells.proofs.Soundness.{fits-used, fits-past}
@@ -83,6 +83,14 @@ module _ (x : Cell) (v : Bool) (m : x .mark ≡ 0 → ⊥) (b : x .mark ≡ x .b
 -- ---- a cell's weight is 0 where it is blank
 abbrev light : Cell → ℕ
 light x = x .base + x .mark * 4294967296 + x .tone * 281474976710656
+
+pub weight-flagged : (x : Cell) → x .upper ≡ true → light x + 72057594037927936 ≡ weightOf x
+unfolding weightOf
+weight-flagged x u = rw u refl
+
+pub weight-plain : (x : Cell) → x .upper ≡ false → light x ≡ weightOf x
+unfolding weightOf
+weight-plain x u = rw u (omega arith)
 
 pub weight-upper : (x : Cell) → x .upper ≡ true → eqb (light x + 72057594037927936) 0 ≡ isBlank x
 unfolding isBlank

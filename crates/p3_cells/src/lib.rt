@@ -6,7 +6,7 @@ ghost use Prim.Native.Nat.{_<_, _≤_, _^_};
 ghost use lib.Dec.{eqb};
 ghost use lib.ListN.{length, drop};
 ghost use Rattle.p0_choice.specs.Choice.{among};
-ghost use Rattle.p3_cells.specs.Cells.{limit, blank as blankCell, isBlank, marks, toneFits, isCell, typed as typedCell, isSound, used};
+ghost use Rattle.p3_cells.specs.Cells.{limit, blank as blankCell, isBlank, marks, toneFits, isCell, typed as typedCell, isSound, weightOf, used};
 ghost use Rattle.p3_cells.specs.Text.{letterOf, tonedLetter, shown as shownOf, textOf};
 use p0_refusals::Answer;
 use p1_letters as letters;
@@ -114,7 +114,7 @@ pub fn is_cell(x: Cell) -> bool
 
 // A cell as one number, 0 for a blank cell alone: one load of 8 bytes.
 pub fn weight(x: Cell) -> u64
-    ensures { λ r. ⌜ (eqb r 0 ≡ isBlank x) × (r < 2 ^ 57) ⌝ }
+    ensures { λ r. ⌜ (r ≡ weightOf x) × (eqb r 0 ≡ isBlank x) × (r < 2 ^ 57) ⌝ }
 {
     let b = x.base as u64;
     let m = x.mark as u64;

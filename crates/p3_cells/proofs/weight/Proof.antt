@@ -1,5 +1,5 @@
 use borrow.Author.Needs.{needs}
-use Rattle.p3_cells.proofs.SoundTest.{weight-upper, weight-lower}
+use Rattle.p3_cells.proofs.SoundTest.{weight-flagged, weight-plain, weight-upper, weight-lower}
 use Rattle.p3_cells.proofs.weight.Statement.{statement}
 use Rattle.p3_cells.proofs.weight.Tie as tie
 
@@ -8,4 +8,4 @@ weight-spec =
     tie.close
     (tie.spec
     (λ c. search needs) (λ c. search needs) (λ c. search needs) (λ c. search needs) (λ c. search needs) (λ c. search needs) (λ c. search needs) (λ c. search needs)
-    (λ c. (search weight-upper, search needs)) (λ c. (search weight-lower, search needs)))
+    (λ c. (search weight-flagged, search weight-upper, search needs)) (λ c. (search weight-plain, search weight-lower, search needs)))
