@@ -1,3 +1,4 @@
+pub mod Blocks
 pub mod Alphabet
 pub mod Words
 pub mod Tones

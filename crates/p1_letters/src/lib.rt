@@ -1,22 +1,35 @@
 // The letters of document 01's alphabet: which they are, their case, tone on and off, and the two vowel
 // tests (port order 1). Every function takes every u32; what is no letter is left as it is.
+ghost use Prim.Native.Nat.{ℕ, _/_, _%_, _^_, _≤_, _<_};
 ghost use mathlib.Core.Path.{_≡_};
 ghost use mathlib.Core.List.{[], _∷_};
+ghost use lib.Dec.{eqb};
 ghost use Rattle.p0_choice.specs.Choice.{among};
 ghost use Rattle.p1_letters.specs.Alphabet.{smallBy32, smallBy1, smallNext, isCapital, inAlphabet, allLetters, isWhiteSpace, asciiLower, asciiUpper, lower as lowerOf, upper as upperOf};
 ghost use Rattle.p1_letters.specs.Tones.{toneColumn, toneFrom, toneOn, toneOff};
 ghost use Rattle.p1_letters.specs.Vowels.{vowels, isVowel, isSpellingVowel};
 
-// à á â ã è é ê ì í ò ó ô õ ù ú ý, whose capitals are 32 less. Two arms, so that no key of one has a
-// neighbour there: neighbours would be taken for a range.
+// Code points in blocks of 32, each block a number whose lowest bit stands for the block's first code point.
+fn bit(block: u32, x: u32) -> bool
+    ensures { λ r. ⌜ r ≡ eqb (block / 2 ^ (x % 32) % 2) 1 ⌝ }
+{
+    (block >> (x % 32)) % 2 == 1
+}
+
+// À Á Â Ã È É Ê Ì Í Ò Ó Ô Õ Ù Ú Ý in their block, and their small letters in the next.
+const BY_32: u32 = 0x263c370f;
+
+// à á â ã è é ê ì í ò ó ô õ ù ú ý, whose capitals are 32 less.
 fn is_small_by_32(x: u32) -> bool
     ensures { λ r. ⌜ r ≡ among x smallBy32 ⌝ }
 {
-    match x {
-        0xe0 | 0xe2 | 0xe8 | 0xea | 0xec | 0xf2 | 0xf4 | 0xf9 | 0xfd => true,
-        0xe1 | 0xe3 | 0xe9 | 0xed | 0xf3 | 0xf5 | 0xfa => true,
-        _ => false,
+    if x < 0xe0 {
+        return false;
     }
+    if 0xff < x {
+        return false;
+    }
+    bit(BY_32, x)
 }
 
 // ă đ ĩ ũ ơ ư, whose capitals are 1 less.
@@ -61,6 +74,26 @@ pub fn is_capital(x: u32) -> bool
     is_small_next(x + 1)
 }
 
+// The letters of a block between ASCII and U+1EA0. The arms answer numbers, which the compiler keeps as a table of 8; yes
+// or no by code point would be a jump for each of the 209 from à to ư.
+fn letters_in(block: u32) -> u32
+    ensures { λ r. ⌜ ((x : ℕ) → 0x80 ≤ x → x < 0x1ea0 → x / 32 ≡ block → eqb (r / 2 ^ (x % 32) % 2) 1 ≡ inAlphabet x) ⌝ }
+{
+    match block {
+        6 => BY_32,
+        7 => BY_32,
+        // Ă ă Đ đ
+        8 => 0x0003000c,
+        // Ĩ ĩ
+        9 => 0x00000300,
+        // Ũ ũ
+        11 => 0x00000300,
+        // Ơ ơ Ư ư
+        13 => 0x00018003,
+        _ => 0,
+    }
+}
+
 pub fn in_alphabet(x: u32) -> bool
     ensures { λ r. ⌜ r ≡ inAlphabet x ⌝ }
 {
@@ -70,13 +103,7 @@ pub fn in_alphabet(x: u32) -> bool
     if 0x1ea0 <= x {
         return x <= 0x1ef9;
     }
-    if is_small_by_32(x) {
-        return true;
-    }
-    if is_small_by_1(x) {
-        return true;
-    }
-    is_capital(x)
+    bit(letters_in(x / 32), x)
 }
 
 pub fn all_letters(s: &[u32]) -> bool
@@ -238,77 +265,35 @@ pub fn is_vowel(ch: u32) -> bool
     is_small_vowel(ascii_lower(ch))
 }
 
-// The speller's test: all 72 letters, as the Rust has them, in two arms without neighbours.
+// The speller's vowels of a block below U+1EA0.
+fn spelling_vowels_in(block: u32) -> u32
+    ensures { λ r. ⌜ ((x : ℕ) → x < 0x1ea0 → x / 32 ≡ block → eqb (r / 2 ^ (x % 32) % 2) 1 ≡ isSpellingVowel x) ⌝ }
+{
+    match block {
+        // a e i o u y
+        3 => 0x02208222,
+        7 => BY_32,
+        // ă
+        8 => 0x00000008,
+        // ĩ
+        9 => 0x00000200,
+        // ũ
+        11 => 0x00000200,
+        // ơ ư
+        13 => 0x00010002,
+        _ => 0,
+    }
+}
+
+// The speller's test: 27 letters below U+1EA0, and the small ones from there on.
 pub fn is_spelling_vowel(c: u32) -> bool
     ensures { λ r. ⌜ r ≡ isSpellingVowel c ⌝ }
 {
-    match c {
-        0x61
-        | 0x65
-        | 0x69
-        | 0x6f
-        | 0x75
-        | 0x79
-        | 0xe0
-        | 0xe2
-        | 0xe8
-        | 0xea
-        | 0xec
-        | 0xf2
-        | 0xf4
-        | 0xf9
-        | 0xfd
-        | 0x103
-        | 0x129
-        | 0x169
-        | 0x1a1
-        | 0x1b0
-        | 0x1ea1
-        | 0x1ea3
-        | 0x1ea5
-        | 0x1ea7
-        | 0x1ea9
-        | 0x1eab
-        | 0x1ead
-        | 0x1eaf
-        | 0x1eb1
-        | 0x1eb3
-        | 0x1eb5
-        | 0x1eb7
-        | 0x1eb9
-        | 0x1ebb
-        | 0x1ebd
-        | 0x1ebf
-        | 0x1ec1
-        | 0x1ec3
-        | 0x1ec5
-        | 0x1ec7
-        | 0x1ec9
-        | 0x1ecb
-        | 0x1ecd
-        | 0x1ecf
-        | 0x1ed1
-        | 0x1ed3
-        | 0x1ed5
-        | 0x1ed7
-        | 0x1ed9
-        | 0x1edb
-        | 0x1edd
-        | 0x1edf
-        | 0x1ee1
-        | 0x1ee3
-        | 0x1ee5
-        | 0x1ee7
-        | 0x1ee9
-        | 0x1eeb
-        | 0x1eed
-        | 0x1eef
-        | 0x1ef1
-        | 0x1ef3
-        | 0x1ef5
-        | 0x1ef7
-        | 0x1ef9 => true,
-        0xe1 | 0xe3 | 0xe9 | 0xed | 0xf3 | 0xf5 | 0xfa => true,
-        _ => false,
+    if c < 0x1ea0 {
+        return bit(spelling_vowels_in(c / 32), c);
     }
+    if 0x1ef9 < c {
+        return false;
+    }
+    c % 2 == 1
 }

@@ -1,5 +1,6 @@
 pub mod Letters
+pub mod Exact
+pub mod FirstByte
 pub mod Surveying
 pub mod Spreading
-pub mod Exact
 pub mod Reading

@@ -1,8 +1,10 @@
 // Bytes read as UTF-8 over the alphabet (document 01, port order 5).
 ghost use mathlib.Core.Path.{_≡_};
+ghost use mathlib.Core.List.{[], _∷_};
 ghost use Prim.Native.Nat.{_≤_};
 ghost use lib.ListN.{length};
 ghost use Rattle.p0_refusals.specs.Answers.{writes, content, counted, answer, onto, output};
+ghost use Rattle.p5_utf8.specs.Rfc3629.{bits2, bits3};
 ghost use Rattle.p5_utf8_read.specs.Read.{reading};
 use p0_refusals::Answer;
 use p0_refusals::Refusal;
@@ -51,7 +53,21 @@ fn survey(bytes: &[u8]) -> Answer
     Answer::Done(k)
 }
 
-// Writes the letters from the start of `out`.
+// A letter's two bytes read back.
+fn two(a: u8, b: u8) -> u32
+    ensures { λ r. ⌜ r ≡ bits2 (a ∷ b ∷ []) ⌝ }
+{
+    (a as u32) % 32 * 64 + (b as u32) % 64
+}
+
+// A letter's three bytes read back.
+fn three(a: u8, b: u8, c: u8) -> u32
+    ensures { λ r. ⌜ r ≡ bits3 (a ∷ b ∷ c ∷ []) ⌝ }
+{
+    (a as u32) % 16 * 4096 + (b as u32) % 64 * 64 + (c as u32) % 64
+}
+
+// Writes the letters from the start of `out`. The bytes are known to be letters, so the first of each says how many it has.
 fn spread(bytes: &[u8], out: &mut [u32])
     requires { ⌜ (reading (now bytes) ≡ writes (content (reading (now bytes)))) × (length (content (reading (now bytes))) ≤ length (now out)) ⌝ }
     ensures { λ r. ⌜ now (out .exit) ≡ onto (content (reading (now (bytes .entry)))) (now (out .entry)) ⌝ }
@@ -66,15 +82,16 @@ fn spread(bytes: &[u8], out: &mut [u32])
             k += 1;
             continue;
         }
-        let found = utf8::char_at(bytes, i);
-        match found {
-            Char::Malformed => return,
-            Char::Scalar(x, width) => {
-                out[k] = x;
-                i += width;
-                k += 1;
-            }
+        let b = bytes[i + 1];
+        if a < 0xe0 {
+            out[k] = two(a, b);
+            i += 2;
+            k += 1;
+            continue;
         }
+        out[k] = three(a, b, bytes[i + 2]);
+        i += 3;
+        k += 1;
     }
 }
 
