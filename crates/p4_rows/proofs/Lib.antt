@@ -1,5 +1,6 @@
 pub mod Words
 pub mod Listed
 pub mod Keys
+pub mod Matrices
 pub mod Pairs
 pub mod Spread

@@ -1,6 +1,6 @@
--- The search for two rows that go together, a row at a time: the first m of f with the first n of l.
+-- The search for two rows that go together, a row at a time.
 use Prim.Native.Nat.{ℕ, zero, suc, _+_, _≤_, _<_}
-use mathlib.Core.Path.{_≡_, ap, _∙_}
+use mathlib.Core.Path.{_≡_, refl, sym, ap, _∙_}
 use mathlib.Core.Bool.{Bool, true, false}
 use mathlib.Core.List.{List, [], _∷_}
 use native.Mathlib.Omega.{arith}
@@ -9,58 +9,73 @@ use lib.Dec.{T, ltb}
 use lib.ListN.{length, take, drop, getD, drop-of-length-le}
 use lib.Seq.{drop-cons, getD-take, length-take-le}
 use borrow.Author.Tests.{ltb-true}
-use Rattle.p0_choice.specs.Choice.{pick, each, count, same}
-use Rattle.p0_choice.proofs.Tables.{pick-first, pick-second, each-count, same-true}
+use Rattle.p0_choice.specs.Choice.{pick, each}
+use Rattle.p0_choice.proofs.Tables.{pick-first, pick-second}
 use Rattle.p4_rows.specs.declared.Rows.{Rows}
-use Rattle.p4_rows.specs.Rows.{onsetToVowels, vowelsToCoda}
 use Rattle.p4_rows.specs.Lookup.{allows, allowsAny, goTogether}
 use Rattle.p4_rows.specs.Keys.{shown, Below}
 
--- the first n of l from j on
-here : (l : List ℕ) (n j : ℕ) → j < n → n ≤ length l → drop j (take n l) ≡ getD l j 0 ∷ drop (suc j) (take n l)
-here l n j h k =
-    drop-cons (take n l) j 0 (omega (arith, length-take-le n l k)) ∙ ap (λ (x : ℕ). x ∷ drop (suc j) (take n l)) (getD-take n l j 0 h)
+-- f looks through rows for one that p takes
+record Searches (f : List ℕ → Bool) (p : ℕ → Bool) : Type 0 where
+  none : f [] ≡ false
+  turn : (x : ℕ) (xs : List ℕ) → f (x ∷ xs) ≡ pick (p x) true (f xs)
 
-past : (l : List ℕ) (n j : ℕ) → n ≤ j → n ≤ length l → drop j (take n l) ≡ []
-past l n j h k = let s : length (take n l) ≤ j = omega (arith, length-take-le n l k) in drop-of-length-le (take n l) s
+row-searches : (g : List (List ℕ)) (i : ℕ) → Searches (λ (js : List ℕ). allowsAny g i js) (λ (j : ℕ). allows g i j)
+unfolding allowsAny
+row-searches g i = record { none = refl; turn = λ x xs. refl }
 
--- the rows of the struct are within its array
-room : {k : ℕ} (r : Rows) → Below k r → length (r .rows) ≡ 2 → r .count ≤ length (r .rows)
-room r b e = omega (arith, b .few)
+pair-searches : (g : List (List ℕ)) (js : List ℕ) → Searches (λ (is : List ℕ). goTogether g is js) (λ (i : ℕ). allowsAny g i js)
+unfolding goTogether
+pair-searches g js = record { none = refl; turn = λ x xs. refl }
 
--- s is what the search over the rows of v says for row a, and is sought from row j on
-module _ (g : List (List ℕ)) {k : ℕ} (a : ℕ) (v : Rows) (j : ℕ) (s : Bool) (b : Below k v) (l : length (v .rows) ≡ 2)
-    (e : s ≡ allowsAny g a (drop j (take (v .count) (v .rows)))) where
-  turn : j < v .count → s ≡ pick (allows g a (getD (v .rows) j 0)) true (allowsAny g a (drop (suc j) (take (v .count) (v .rows))))
-  unfolding allowsAny
-  turn h = e ∙ ap (λ (x : List ℕ). allowsAny g a x) (here (v .rows) (v .count) j h (room v b l))
+-- the first n of l from j on: what is left of a search
+abbrev pub rest : ℕ → List ℕ → ℕ → List ℕ
+rest n l j = drop j (take n l)
 
-  pub row-hit : j < v .count → allows g a (getD (v .rows) j 0) ≡ true → s ≡ true
-  row-hit h t = turn h ∙ rw t
+module _ {k : ℕ} (r : Rows) (b : Below k r) (e : length (r .rows) ≡ 2) where
+  room : r .count ≤ length (r .rows)
+  room = omega (arith, b .few)
 
-  pub row-miss : j < v .count → allows g a (getD (v .rows) j 0) ≡ false → s ≡ allowsAny g a (drop (j + 1) (take (v .count) (v .rows)))
-  row-miss h t = turn h ∙ rw (t, add-one j)
+  module _ (j : ℕ) {f : List ℕ → Bool} {p : ℕ → Bool} (s : Searches f p) where
+    here : j < r .count → f (rest (r .count) (r .rows) j) ≡ pick (p (getD (r .rows) j 0)) true (f (rest (r .count) (r .rows) (suc j)))
+    here h =
+        ap f (drop-cons (take (r .count) (r .rows)) j 0 (omega (arith, length-take-le (r .count) (r .rows) room)))
+        ∙ rw (getD-take (r .count) (r .rows) j 0 h) (s .turn (getD (r .rows) j 0) (rest (r .count) (r .rows) (suc j)))
 
-  pub row-end : v .count ≤ j → s ≡ false
-  unfolding allowsAny
-  row-end h = e ∙ ap (λ (x : List ℕ). allowsAny g a x) (past (v .rows) (v .count) j h (room v b l))
+    hit : j < r .count → p (getD (r .rows) j 0) ≡ true → f (rest (r .count) (r .rows) j) ≡ true
+    hit h t = here h ∙ rw t
 
--- s is what the search over the rows of o and the rows vs says, and is sought from row i of o on
-module _ (g : List (List ℕ)) {k : ℕ} (o : Rows) (vs : List ℕ) (i : ℕ) (s : Bool) (b : Below k o) (l : length (o .rows) ≡ 2)
-    (e : s ≡ goTogether g (drop i (take (o .count) (o .rows))) vs) where
-  turns : i < o .count → s ≡ pick (allowsAny g (getD (o .rows) i 0) vs) true (goTogether g (drop (suc i) (take (o .count) (o .rows))) vs)
-  unfolding goTogether
-  turns h = e ∙ ap (λ (x : List ℕ). goTogether g x vs) (here (o .rows) (o .count) i h (room o b l))
+    miss : j < r .count → p (getD (r .rows) j 0) ≡ false → f (rest (r .count) (r .rows) j) ≡ f (rest (r .count) (r .rows) (j + 1))
+    miss h t = here h ∙ rw (t, add-one j)
 
-  pub pair-hit : i < o .count → allowsAny g (getD (o .rows) i 0) vs ≡ true → s ≡ true
-  pair-hit h t = turns h ∙ rw t
+    end : r .count ≤ j → f (rest (r .count) (r .rows) j) ≡ false
+    end h =
+        let past : length (take (r .count) (r .rows)) ≤ j = omega (arith, length-take-le (r .count) (r .rows) room) in
+        ap f (drop-of-length-le (take (r .count) (r .rows)) past) ∙ s .none
 
-  pub pair-miss : i < o .count → allowsAny g (getD (o .rows) i 0) vs ≡ false → s ≡ goTogether g (drop (i + 1) (take (o .count) (o .rows))) vs
-  pair-miss h t = turns h ∙ rw (t, add-one i)
+-- The two loops, over the first m rows of k and for each over the first n of l: what is left of a search decides it.
+abbrev pub RowRest : List (List ℕ) → ℕ → ℕ → List ℕ → ℕ → Type 0
+RowRest g a n l j = allowsAny g a (take n l) ≡ allowsAny g a (rest n l j)
 
-  pub pair-end : o .count ≤ i → s ≡ false
-  unfolding goTogether
-  pair-end h = e ∙ ap (λ (x : List ℕ). goTogether g x vs) (past (o .rows) (o .count) i h (room o b l))
+abbrev pub PairRest : List (List ℕ) → ℕ → List ℕ → ℕ → List ℕ → ℕ → Type 0
+PairRest g m k n l i = goTogether g (take m k) (take n l) ≡ goTogether g (rest m k i) (take n l)
+
+module _ (g : List (List ℕ)) {p q : ℕ} (o v : Rows) (bo : Below p o) (bv : Below q v) (lo : length (o .rows) ≡ 2) (lv : length (v .rows) ≡ 2) where
+  -- r is the code's answer for the pair
+  pub row-on : (a j : ℕ) (r : Bool) → RowRest g a (v .count) (v .rows) j → j < v .count → r ≡ allows g a (getD (v .rows) j 0) → r ≡ false → RowRest g a (v .count) (v .rows) (j + 1)
+  row-on a j r e h t f = e ∙ miss v bv lv j (row-searches g a) h (sym t ∙ f)
+
+  module _ (i j : ℕ) (e : PairRest g (o .count) (o .rows) (v .count) (v .rows) i) (h : i < o .count) (e′ : RowRest g (getD (o .rows) i 0) (v .count) (v .rows) j) where
+    pub pair-on : v .count ≤ j → PairRest g (o .count) (o .rows) (v .count) (v .rows) (i + 1)
+    pair-on k = e ∙ miss o bo lo i (pair-searches g _) h (e′ ∙ end v bv lv j (row-searches g _) k)
+
+    pub pair-found : (r : Bool) → j < v .count → r ≡ allows g (getD (o .rows) i 0) (getD (v .rows) j 0) → r ≡ true → true ≡ goTogether g (shown o) (shown v)
+    unfolding shown
+    pair-found r k t f = sym (e ∙ hit o bo lo i (pair-searches g _) h (e′ ∙ hit v bv lv j (row-searches g _) k (sym t ∙ f)))
+
+  pub pair-none : (i : ℕ) (r : Bool) → PairRest g (o .count) (o .rows) (v .count) (v .rows) i → r ≡ false → o .count ≤ i → r ≡ goTogether g (shown o) (shown v)
+  unfolding shown
+  pair-none i r e f h = f ∙ sym (e ∙ end o bo lo i (pair-searches g _) h)
 
 row-at : (k : ℕ) (l : List ℕ) (n j : ℕ) → T (each (λ (i : ℕ). ltb i k) (take n l)) → j < n → n ≤ length l → getD l j 0 < k
 row-at k [] n j t h s = absurd (omega arith)
@@ -71,44 +86,4 @@ row-at k (x ∷ l) (suc n) (suc j) t h s = row-at k l n j (pick-second (ltb x k)
 -- a row of the struct is a row of the matrix
 pub row-below : {k : ℕ} (r : Rows) (j : ℕ) → Below k r → length (r .rows) ≡ 2 → j < r .count → getD (r .rows) j 0 < k
 unfolding shown
-row-below {k} r j b l h = row-at k (r .rows) (r .count) j (b .low) h (room r b l)
-
--- ---- the code's matrices are those of document 01, by a test at each pair of rows
-unfoldable pub cvMatrix : List (List Bool)
-cvMatrix =
-    (true ∷ true ∷ true ∷ false ∷ false ∷ true ∷ false ∷ false ∷ []) ∷
-    (true ∷ true ∷ true ∷ true ∷ true ∷ true ∷ false ∷ false ∷ []) ∷
-    (true ∷ true ∷ true ∷ true ∷ false ∷ true ∷ false ∷ false ∷ []) ∷
-    (false ∷ false ∷ false ∷ false ∷ false ∷ false ∷ true ∷ false ∷ []) ∷
-    (false ∷ false ∷ false ∷ false ∷ false ∷ false ∷ false ∷ true ∷ []) ∷
-    []
-
-unfoldable pub vcMatrix : List (List Bool)
-vcMatrix =
-    (true ∷ false ∷ true ∷ false ∷ false ∷ []) ∷
-    (true ∷ true ∷ true ∷ false ∷ false ∷ []) ∷
-    (false ∷ true ∷ true ∷ false ∷ false ∷ []) ∷
-    (false ∷ true ∷ true ∷ false ∷ false ∷ []) ∷
-    (false ∷ false ∷ false ∷ false ∷ false ∷ []) ∷
-    (false ∷ false ∷ false ∷ false ∷ false ∷ []) ∷
-    (false ∷ false ∷ false ∷ true ∷ false ∷ []) ∷
-    (false ∷ false ∷ false ∷ false ∷ true ∷ []) ∷
-    []
-
-agree : List (List Bool) → List (List ℕ) → ℕ → ℕ → Bool
-agree m g i j = same (getD (getD m i []) j false) (allows g i j)
-
-matrix-is : (m : List (List Bool)) (g : List (List ℕ)) (h w : ℕ) → T (each (λ (i : ℕ). each (λ (j : ℕ). agree m g i j) (count w 0)) (count h 0))
-    → (i j : ℕ) → i < h → j < w → getD (getD m i []) j false ≡ allows g i j
-unfolding agree
-matrix-is m g h w t i j hi hj =
-    let row : each (λ (y : ℕ). agree m g i y) (count w 0) ≡ true = each-count (λ (x : ℕ). each (λ (y : ℕ). agree m g x y) (count w 0)) h 0 t i (omega arith) (omega arith) in
-    same-true (getD (getD m i []) j false) (allows g i j) (each-count (λ (y : ℕ). agree m g i y) w 0 (rw row tt) j (omega arith) (omega arith))
-
-pub cv-is : (i j : ℕ) → i < 5 → j < 8 → getD (getD cvMatrix i []) j false ≡ allows onsetToVowels i j
-unfolding agree cvMatrix onsetToVowels allows
-cv-is i j hi hj = matrix-is cvMatrix onsetToVowels 5 8 tt i j hi hj
-
-pub vc-is : (i j : ℕ) → i < 8 → j < 5 → getD (getD vcMatrix i []) j false ≡ allows vowelsToCoda i j
-unfolding agree vcMatrix vowelsToCoda allows
-vc-is i j hi hj = matrix-is vcMatrix vowelsToCoda 8 5 tt i j hi hj
+row-below {k} r j b e h = row-at k (r .rows) (r .count) j (b .low) h (room r b e)

@@ -1,3 +1,4 @@
 pub mod Rows
 pub mod Lookup
+pub mod Matrices
 pub mod Keys

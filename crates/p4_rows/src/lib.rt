@@ -1,10 +1,11 @@
 // The rows of `spelling.rs` as letter tables, and its two matrices: in which rows a part of a word stands,
 // and whether a row of one part goes with a row of another.
 ghost use mathlib.Core.Path.{_≡_};
-ghost use Prim.Native.Nat.{_≤_};
+ghost use Prim.Native.Nat.{_<_};
 ghost use Rattle.p4_rows.specs.Rows.{onsetRows, vowelRows, codaRows, onsetToVowels, vowelsToCoda};
-ghost use Rattle.p4_rows.specs.Lookup.{rowsOf, goTogether};
-ghost use Rattle.p4_rows.specs.Keys.{keyOf, keyRows, rowsOn, onsetKeys, vowelKeys, codaKeys, spread, shown, Below};
+ghost use Rattle.p4_rows.specs.Lookup.{rowsOf, allows as allowed, goTogether};
+ghost use Rattle.p4_rows.specs.Matrices.{pairsOf, height, width};
+ghost use Rattle.p4_rows.specs.Keys.{keyOf, rowsOn, onsetKeys, vowelKeys, codaKeys, spread, shown, Below};
 
 // The numbers of the rows that a part stands in: the first `count` of `rows`. No part stands in more than two.
 pub struct Rows {
@@ -12,7 +13,13 @@ pub struct Rows {
     pub rows: [usize; 2],
 }
 
-// Which rows go together, by onset row and vowel row.
+// The two matrices: which rows of a part go with which rows of the next.
+enum Matrix {
+    OnsetToVowels,
+    VowelsToCoda,
+}
+
+// By onset row and vowel row.
 const CV_MATRIX: [[bool; 8]; 5] = [
     [true, true, true, false, false, true, false, false],
     [true, true, true, true, true, true, false, false],
@@ -21,7 +28,7 @@ const CV_MATRIX: [[bool; 8]; 5] = [
     [false, false, false, false, false, false, false, true],
 ];
 
-// Which rows go together, by vowel row and coda row.
+// By vowel row and coda row.
 const VC_MATRIX: [[bool; 5]; 8] = [
     [true, false, true, false, false],
     [true, true, true, false, false],
@@ -271,21 +278,32 @@ pub fn lookup_coda(part: &[u32]) -> Rows
     coda_rows(key(part))
 }
 
-// Some row of the onset goes with some row of the vowels: the search ends at the first pair allowed.
-pub fn cv_valid(onset: Rows, vowels: Rows) -> bool
-    requires { ⌜ Below 5 onset × Below 8 vowels ⌝ }
-    ensures { λ r. ⌜ r ≡ goTogether onsetToVowels (shown onset) (shown vowels) ⌝ }
+// Whether a row goes with another.
+fn allows(matrix: Matrix, a: usize, b: usize) -> bool
+    requires { ⌜ (a < height matrix) × (b < width matrix) ⌝ }
+    ensures { λ r. ⌜ r ≡ allowed (pairsOf matrix) a b ⌝ }
 {
-    let m = onset.count;
-    let n = vowels.count;
-    let first = onset.rows;
-    let second = vowels.rows;
+    match matrix {
+        Matrix::OnsetToVowels => CV_MATRIX[a][b],
+        Matrix::VowelsToCoda => VC_MATRIX[a][b],
+    }
+}
+
+// Some row of the first part goes with some row of the second: the search ends at the first pair allowed.
+fn pair_valid(matrix: Matrix, first: Rows, second: Rows) -> bool
+    requires { ⌜ Below (height matrix) first × Below (width matrix) second ⌝ }
+    ensures { λ r. ⌜ r ≡ goTogether (pairsOf matrix) (shown first) (shown second) ⌝ }
+{
+    let m = first.count;
+    let n = second.count;
+    let firsts = first.rows;
+    let seconds = second.rows;
     let mut valid = false;
     'pairs: for i in 0..m {
-        let a = first[i];
+        let a = firsts[i];
         for j in 0..n {
-            let b = second[j];
-            if CV_MATRIX[a][b] {
+            let b = seconds[j];
+            if allows(matrix, a, b) {
                 valid = true;
                 break 'pairs;
             }
@@ -294,25 +312,18 @@ pub fn cv_valid(onset: Rows, vowels: Rows) -> bool
     valid
 }
 
+// Some row of the onset goes with some row of the vowels.
+pub fn cv_valid(onset: Rows, vowels: Rows) -> bool
+    requires { ⌜ Below 5 onset × Below 8 vowels ⌝ }
+    ensures { λ r. ⌜ r ≡ goTogether onsetToVowels (shown onset) (shown vowels) ⌝ }
+{
+    pair_valid(Matrix::OnsetToVowels, onset, vowels)
+}
+
 // Some row of the vowels goes with some row of the coda.
 pub fn vc_valid(vowels: Rows, coda: Rows) -> bool
     requires { ⌜ Below 8 vowels × Below 5 coda ⌝ }
     ensures { λ r. ⌜ r ≡ goTogether vowelsToCoda (shown vowels) (shown coda) ⌝ }
 {
-    let m = vowels.count;
-    let n = coda.count;
-    let first = vowels.rows;
-    let second = coda.rows;
-    let mut valid = false;
-    'pairs: for i in 0..m {
-        let a = first[i];
-        for j in 0..n {
-            let b = second[j];
-            if VC_MATRIX[a][b] {
-                valid = true;
-                break 'pairs;
-            }
-        }
-    }
-    valid
+    pair_valid(Matrix::VowelsToCoda, vowels, coda)
 }

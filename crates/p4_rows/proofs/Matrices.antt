@@ -1,0 +1,24 @@
+-- A matrix of row numbers as one of yes and no, which is what the code has.
+use Prim.Native.Nat.{ℕ, zero, suc, _+_, _<_}
+use mathlib.Core.Path.{_≡_, refl, ap}
+use mathlib.Core.Bool.{Bool, false}
+use mathlib.Core.List.{List, [], _∷_, map}
+use native.Mathlib.Omega.{arith}
+use lib.ListN.{getD}
+use Rattle.p0_choice.specs.Choice.{among, count}
+use Rattle.p4_rows.specs.Lookup.{allows}
+
+-- w columns wide
+unfoldable pub yesNo : ℕ → List (List ℕ) → List (List Bool)
+yesNo w g = map (λ (row : List ℕ). map (λ (j : ℕ). among j row) (count w 0)) g
+
+column : (f : ℕ → Bool) (w k j x : ℕ) → k + j ≡ x → j < w → getD (map f (count w k)) j false ≡ f x
+column f zero k j x e h = absurd (omega arith)
+column f (suc w) k zero x e h = let d : k ≡ x = omega arith in ap f d
+column f (suc w) k (suc j) x e h = column f w (suc k) j x (omega arith) (omega arith)
+
+pub yes-no : (w : ℕ) (g : List (List ℕ)) (i j : ℕ) → j < w → getD (getD (yesNo w g) i []) j false ≡ allows g i j
+unfolding yesNo allows
+yes-no w [] i j h = refl
+yes-no w (row ∷ g) zero j h = column (λ (x : ℕ). among x row) w 0 j j (omega arith) h
+yes-no w (row ∷ g) (suc i) j h = yes-no w g i j h

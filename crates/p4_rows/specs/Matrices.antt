@@ -1,0 +1,19 @@
+-- The two matrices by the names that the code has for them.
+use Prim.Native.Nat.{ℕ}
+use mathlib.Core.List.{List}
+use Rattle.p4_rows.specs.declared.Matrix.{Matrix}
+use Rattle.p4_rows.specs.declared.Matrix.the-variants.{OnsetToVowels, VowelsToCoda}
+use Rattle.p4_rows.specs.Rows.{onsetToVowels, vowelsToCoda}
+
+abbrev pub pairsOf : Matrix → List (List ℕ)
+pairsOf OnsetToVowels = onsetToVowels
+pairsOf VowelsToCoda = vowelsToCoda
+
+-- how many rows it has of the first part, and of the second
+abbrev pub height : Matrix → ℕ
+height OnsetToVowels = 5
+height VowelsToCoda = 8
+
+abbrev pub width : Matrix → ℕ
+width OnsetToVowels = 8
+width VowelsToCoda = 5
