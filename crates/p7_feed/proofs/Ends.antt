@@ -4,7 +4,7 @@ use mathlib.Core.Path.{_≡_, refl, sym, ap, _∙_}
 use mathlib.Core.List.{List, [], _∷_, _++_}
 use native.Mathlib.Omega.{arith}
 use lib.ListN.{length, take, drop, take-append-drop}
-use lib.Seq.{take-at}
+use Rattle.p0_refusals.specs.Answers.{onto}
 use Rattle.p0_refusals.specs.declared.Refusal.{Refusal}
 use Rattle.p2_input_method.specs.declared.InputMethod.{InputMethod}
 use Rattle.p7_line.specs.Line.{refusedLine, lineOut}
@@ -77,37 +77,40 @@ module _ (p : Phase) (l : List ℕ) where
     pub ended-out : (at : ℕ) (o : List ℕ) → o ≡ take at o ++ (endOut p l ++ drop at o)
     ended-out at o = rw out-ended (sym (take-append-drop at o))
 
--- ---- the end of the input: what is printed stands at the start of the output
-printed : (e o o' : List ℕ) (r : ℕ) → r ≡ 0 + length e → o' ≡ take 0 o ++ (e ++ drop r o) → take r o' ≡ e
-printed e o o' r k h = rw h (take-at e (drop r o) r (omega arith))
-
-finish-of-start : (l : List ℕ) → finishOf Start l ≡ endOut Start l
-unfolding finishOf
-finish-of-start l = refl
-
+-- ---- the end of the input: what the line at hand prints stands at the start of the output
 module _ (p : Phase) (held h : List ℕ) (q : held ≡ h) where
-  pub finish-start : p ≡ Start → (o o' : List ℕ) (r : ℕ) → r ≡ 0 + length (endOut p held) → o' ≡ take 0 o ++ (endOut p held ++ drop r o)
-      → take r o' ≡ finishOut (state h p)
-  unfolding finishOut
-  finish-start s o o' r k w = printed (endOut p held) o o' r k w ∙ rw (q, s) (sym (finish-of-start h))
+  pub finish-start : p ≡ Start → endOut p held ≡ finishOut (state h p)
+  unfolding finishOut finishOf
+  finish-start s = rw (q, s) refl
 
-  pub finish-none : (m : InputMethod) → p ≡ Keys m → length held ≡ 0 → [] ≡ finishOut (state h p)
+  pub finish-keys : (m : InputMethod) → p ≡ Keys m → (length held ≡ 0 → ⊥) → endOut p held ≡ finishOut (state h p)
   unfolding finishOut finishOf finishKeys
-  finish-none m s z = rw (← q, s) (none held z)
-    where
-      none : (l : List ℕ) → length l ≡ 0 → [] ≡ finishOf (Keys m) l
-      none [] z = refl
-      none (b ∷ l) z = absurd (omega arith)
-
-  pub finish-keys : (m : InputMethod) → p ≡ Keys m → (length held ≡ 0 → ⊥) → (o o' : List ℕ) (r : ℕ) → r ≡ 0 + length (endOut p held)
-      → o' ≡ take 0 o ++ (endOut p held ++ drop r o) → take r o' ≡ finishOut (state h p)
-  unfolding finishOut finishOf finishKeys
-  finish-keys m s z o o' r k w = printed (endOut p held) o o' r k w ∙ rw (← q, s) (some held z)
+  finish-keys m s z = rw (← q, s) (some held z)
     where
       some : (l : List ℕ) → (length l ≡ 0 → ⊥) → endOut (Keys m) l ≡ finishOf (Keys m) l
       some [] z = absurd (z refl)
       some (b ∷ l) z = refl
 
-  pub finish-ended : p ≡ Ended → [] ≡ finishOut (state h p)
+  pub finish-none : (m : InputMethod) → p ≡ Keys m → length held ≡ 0 → finishOut (state h p) ≡ []
+  unfolding finishOut finishOf finishKeys
+  finish-none m s z = rw (← q, s) (none held z)
+    where
+      none : (l : List ℕ) → length l ≡ 0 → finishOf (Keys m) l ≡ []
+      none [] z = refl
+      none (b ∷ l) z = absurd (omega arith)
+
+  pub finish-ended : p ≡ Ended → finishOut (state h p) ≡ []
   unfolding finishOut finishOf
   finish-ended s = rw s refl
+
+pub some-count : (e f : List ℕ) (r : ℕ) → r ≡ 0 + length e → e ≡ f → r ≡ length f
+some-count e f r k z = let j = ap length z in omega arith
+
+pub some-out : (e f o o' : List ℕ) (r : ℕ) → r ≡ 0 + length e → o' ≡ take 0 o ++ (e ++ drop r o) → e ≡ f → o' ≡ onto f o
+some-out e f o o' r k w z = let j : r ≡ length f = some-count e f r k z in rw (← j, ← z) w
+
+pub none-count : (f : List ℕ) → f ≡ [] → 0 ≡ length f
+none-count f z = rw z refl
+
+pub none-left : (f o : List ℕ) → f ≡ [] → o ≡ onto f o
+none-left f o z = rw z refl

@@ -1,14 +1,15 @@
 -- The run over bytes as they come: what is held of the line at hand, and what each byte prints.
-use Prim.Native.Nat.{ℕ}
+use Prim.Native.Nat.{ℕ, _+_}
 use mathlib.Core.Bool.{Bool, true, false}
 use mathlib.Core.List.{List, [], _∷_, _++_}
 use lib.Dec.{eqb, ltb}
-use lib.ListN.{length}
+use lib.ListN.{length, set}
 use Rattle.p0_choice.specs.Choice.{pick}
 use Rattle.p7_line.specs.Line.{refusedLine, lineOut}
 use Rattle.p7_line.specs.Method.{methodOf}
 use Rattle.p7_line.specs.declared.Begun.{Begun}
 use Rattle.p7_line.specs.declared.Begun.the-variants.{With, Refused}
+use Rattle.p7_feed.specs.declared.Fed.{Fed}
 use Rattle.p7_feed.specs.declared.Phase.{Phase}
 use Rattle.p7_feed.specs.declared.Phase.the-variants.{Start, Keys, Ended}
 
@@ -60,6 +61,18 @@ runTo s (b ∷ bs) = runTo (stepTo s b) bs
 unfoldable pub runOut : State → List ℕ → List ℕ
 runOut s [] = []
 runOut s (b ∷ bs) = stepOut s b ++ runOut (stepTo s b) bs
+
+-- what goes on to the next part, and how much this one prints
+unfoldable pub fed : State → List ℕ → Fed
+fed s part =
+    record { carry = record { len = length (runTo s part .held); phase = runTo s part .phase }; n = length (runOut s part) }
+
+-- the line's buffer after a part, where the first len bytes of it are held before: each byte of a line is laid into it
+unfoldable pub lineAfter : List ℕ → ℕ → List ℕ → List ℕ
+lineAfter line len [] = line
+lineAfter line len (b ∷ bs) =
+    pick (eqb b 10) (lineAfter line 0 bs)
+    (pick (ltb len most) (lineAfter (set line len b) (len + 1) bs) (lineAfter line len bs))
 
 -- the end of the input: an unfinished line counts if it has a byte, and the method line always
 unfoldable pub finishKeys : Phase → List ℕ → List ℕ

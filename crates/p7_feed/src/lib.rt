@@ -3,7 +3,8 @@ ghost use mathlib.Core.Path.{_≡_};
 ghost use mathlib.Core.List.{_++_};
 ghost use Prim.Native.Nat.{_+_, _≤_};
 ghost use lib.ListN.{length, take, drop};
-ghost use Rattle.p7_feed.specs.Run.{state, endPhase, endOut, runTo, runOut, finishOut};
+ghost use Rattle.p0_refusals.specs.Answers.{onto};
+ghost use Rattle.p7_feed.specs.Run.{state, endPhase, endOut, runTo, runOut, fed, lineAfter, finishOut};
 use p0_slices as slices;
 use p2_input_method::InputMethod;
 use p7_line::Begun;
@@ -64,9 +65,10 @@ fn end_out(phase: Phase, line: &[u8], out: &mut [u8], at: usize) -> usize
 // A part of the input of at most 512 bytes; what it prints stands at the start of `out`.
 pub fn feed(part: &[u8], line: &mut [u8], carry: Carry, out: &mut [u8]) -> Fed
     requires { ⌜ (length (now part) ≤ 512) × (length (now line) ≡ 257) × (carry .len ≤ 257) × (length (now out) ≡ 65536) ⌝ }
-    ensures small { λ r. ⌜ (r .carry .len ≤ 257) × (r .n ≤ 65536) ⌝ }
-    ensures kept { λ r. ⌜ state (take (r .carry .len) (now (line .exit))) (r .carry .phase) ≡ runTo (state (take (carry .len) (now (line .entry))) (carry .phase)) (now (part .entry)) ⌝ }
-    ensures printed { λ r. ⌜ take (r .n) (now (out .exit)) ≡ runOut (state (take (carry .len) (now (line .entry))) (carry .phase)) (now (part .entry)) ⌝ }
+    ensures { λ r. ⌜ (r ≡ fed (state (take (carry .len) (now (line .entry))) (carry .phase)) (now (part .entry))) × (r .carry .len ≤ 257) × (r .n ≤ 65536) ⌝ }
+    ensures held { λ r. ⌜ (take (r .carry .len) (now (line .exit)) ≡ runTo (state (take (carry .len) (now (line .entry))) (carry .phase)) (now (part .entry)) .held)
+        × (now (line .exit) ≡ lineAfter (now (line .entry)) (carry .len) (now (part .entry))) ⌝ }
+    ensures printed { λ r. ⌜ now (out .exit) ≡ onto (runOut (state (take (carry .len) (now (line .entry))) (carry .phase)) (now (part .entry))) (now (out .entry)) ⌝ }
 {
     let mut len = carry.len;
     let mut phase = carry.phase;
@@ -94,7 +96,7 @@ pub fn feed(part: &[u8], line: &mut [u8], carry: Carry, out: &mut [u8]) -> Fed
 // The end of the input: an unfinished line counts if it has a byte, and the method line always.
 pub fn finish(line: &[u8], carry: Carry, out: &mut [u8]) -> usize
     requires { ⌜ 101 ≤ length (now out) ⌝ }
-    ensures { λ r. ⌜ (r ≤ 101) × (take r (now (out .exit)) ≡ finishOut (state (take (carry .len) (now (line .entry))) (carry .phase))) ⌝ }
+    ensures { λ r. ⌜ (r ≡ length (finishOut (state (take (carry .len) (now (line .entry))) (carry .phase)))) × (r ≤ 101) × (now (out .exit) ≡ onto (finishOut (state (take (carry .len) (now (line .entry))) (carry .phase))) (now (out .entry))) ⌝ }
 {
     let held = slices::first_bytes(line, carry.len);
     let phase = carry.phase;

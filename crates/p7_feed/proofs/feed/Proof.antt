@@ -5,8 +5,9 @@ use mathlib.Core.Path.{_≡_, refl, sym, _∙_}
 use mathlib.Core.List.{_++_, append-nil}
 use Prim.Native.Nat.{_≤_, _*_, _-_}
 use lib.ListN.{length, length-set, take, drop, drop-of-length-le}
-use Rattle.p7_feed.specs.Run.{state, runTo, runOut}
-use Rattle.p7_feed.proofs.Parts.{to-end, out-end, to-held, out-held, to-dropped, out-dropped}
+use lib.Seq.{length-take-le}
+use Rattle.p7_feed.specs.Run.{state, endOut, runTo, runOut, fed, lineAfter}
+use Rattle.p7_feed.proofs.Parts.{to-end, out-end, to-held, out-held, to-dropped, out-dropped, lay-end, lay-held, lay-dropped, lay-done, past-end, printed}
 use Rattle.p7_feed.proofs.feed.Statement.{statement}
 use Rattle.p7_feed.proofs.feed.Tie as tie
 
@@ -15,12 +16,13 @@ Inv-loop part line₀ out₀ len₀ phase₀ n₀ i₀ line out len phase n i =
     (i ≤ length part) × (length line ≡ 257) × (length out ≡ 65536) × (len ≤ 257) × (n ≤ 101 * i)
     × (runTo (state (take len₀ line₀) phase₀) part ≡ runTo (state (take len line) phase) (drop i part))
     × (runOut (state (take len₀ line₀) phase₀) part ≡ take n out ++ runOut (state (take len line) phase) (drop i part))
+    × (lineAfter line₀ len₀ part ≡ lineAfter line len (drop i part)) × (drop n out ≡ drop n out₀)
 
 abbrev μ-loop : tie.MeasureT-loop
 μ-loop part line₀ out₀ len₀ phase₀ n₀ i₀ line out len phase n i = length part - i
 
 loop-holds : tie.Need-loop-holds Inv-loop μ-loop
-loop-holds c = (search needs, search needs, search needs, search needs, search needs, refl, refl)
+loop-holds c = (search needs, search needs, search needs, search needs, search needs, refl, refl, refl, refl)
 
 loop-again : tie.Need-loop-again Inv-loop μ-loop
 loop-again c =
@@ -39,6 +41,8 @@ loop-again c =
       omega (arith, o .ensures .1),
       to-end _ (take (l .len) (l .line)) (l .phase) part (l .i) h _ refl (l .inv .5) q _ f,
       out-end _ (take (l .len) (l .line)) (l .phase) part (l .i) h _ refl (l .inv .5) q _ f (l .out) _ (l .n) _ (omega arith) e w (l .inv .6),
+      lay-end _ _ _ part (l .i) h _ refl (l .inv .7) q,
+      past-end (l .out) _ _ (endOut (l .phase) (take (l .len) (l .line))) (l .n) _ (omega arith) e w (l .inv .8),
     )
 
 loop-again-2 : tie.Need-loop-again-2 Inv-loop μ-loop
@@ -54,6 +58,8 @@ loop-again-2 c =
       search needs,
       to-held _ (l .line) (l .len) (l .phase) part (l .i) _ (l .inv .1) h refl q (c .if2 .taken) (l .inv .5),
       out-held _ (l .line) (l .len) (l .phase) part (l .i) _ (l .inv .1) h refl q (take (l .n) (l .out)) (c .if2 .taken) (l .inv .5) (l .inv .6),
+      lay-held _ (l .line) (l .len) part (l .i) h _ refl (l .inv .7) q (c .if2 .taken),
+      l .inv .8,
     )
 
 loop-again-3 : tie.Need-loop-again-3 Inv-loop μ-loop
@@ -69,16 +75,21 @@ loop-again-3 c =
       search needs,
       to-dropped _ (l .line) (l .len) (l .phase) part (l .i) _ (l .inv .1) h refl q (c .if2 .left) (l .inv .3) (l .inv .5),
       out-dropped _ (l .line) (l .len) (l .phase) part (l .i) _ (l .inv .1) h refl q (take (l .n) (l .out)) (c .if2 .left) (l .inv .3) (l .inv .5) (l .inv .6),
+      lay-dropped _ (l .line) (l .len) part (l .i) h _ refl (l .inv .7) q (c .if2 .left),
+      l .inv .8,
     )
 
 returns : tie.Need-returns Inv-loop μ-loop
-unfolding runTo runOut
+unfolding runTo runOut fed
 returns c =
     let l = c .before .loop in
     let part = c .before .before .before .before .before .args .part .now in
     let k : length part ≤ l .i = omega arith in
     let d = drop-of-length-le part k in
-    ((search needs, search needs), (sym (l .inv .5 ∙ rw d refl), sym (l .inv .6 ∙ rw d (append-nil (take (l .n) (l .out))))))
+    let to : runTo _ part ≡ state (take (l .len) (l .line)) (l .phase) = l .inv .5 ∙ rw d refl in
+    let out = printed (l .out) _ _ (l .n) (omega arith) (l .inv .6 ∙ rw d (append-nil (take (l .n) (l .out)))) (l .inv .8) in
+    let len = length-take-le (l .len) (l .line) (omega arith) in
+    ((rw (to, len, ← out .0) refl, search needs, search needs), ((rw to refl, lay-done _ (l .line) (l .len) part (l .i) k (l .inv .7)), out .1))
 
 pub feed-spec : {M : Type 1} → statement M
 feed-spec =
