@@ -16,9 +16,9 @@ use prog.Wp.{Heap, Calls, Loops, WpFn}
 use ghost.Atoms.{Atoms, sem}
 use contract.Monad.{Fun, fact}
 use contract.Running.{givenOf}
-use types.Kit.{Given, ‵, raw, _⊛_, ⋆, use2, use3, feqL, some, later, _$_, _∵_, !, qed, by, move, keep, drop, use1, split, join, pick, rewrite, fsplit, fsplit3, fjoin, fjoin3, feqI, suffices, frame, await, done}
-use types.Run.{look, init, store, forget, stop, hop, fld, from, load, addr, and-then, no-more, of-opd, assigns, land, returns, enter, alloc1, alloc0, params1, pass1, pass0, free1, free0}
-use types.Part.{agg, whole, sub, look-in}
+use types.Kit.{Given, ‵, raw, _⊛_, ⋆, use3, some, later, _$_, _∵_, !, qed, by, move, keep, drop, use1, split, join, pick, rewrite, fsplit, fsplit3, fjoin, fjoin3, feqI, suffices, frame, await, done}
+use types.Run.{look, init, store, forget, stop, hop, fld, from, load, and-then, no-more, of-opd, assigns, land, returns, enter, alloc1, alloc0, params1, pass1, pass0, free1, free0}
+use types.Part.{whole, sub, look-in}
 use types.SemTy.{Body}
 use sound.WpLaws.{FmC}
 use denote.RattleType.{owns}
@@ -27,7 +27,7 @@ use denote.Memory.{mem}
 use denote.Plain.{uint-vals, uint-tells, uint-makes}
 use denote.Builtin.{u32}
 use denote.Ref.{RefT, MutRef, ptr-vals, mut-tells}
-use denote.Slice.{sliceVal, MutSlice, Room, finally, slice-vals, mut-slice-tells, ShrSlice, shr-slice-tells, shr-slice-lawful, shr-slice-copy}
+use denote.Slice.{sliceVal, slice-vals, ShrSlice, shr-slice-tells, shr-slice-lawful, shr-slice-copy}
 use denote.Signature.{plain}
 use denote.Steps.{only, owned, peeks, heard, nothing}
 use denote.Struct.Laws as LL
@@ -37,7 +37,7 @@ use denote.Triple.Call.{calls-at}
 use denote.Triple.Clauses.{ensured, lasts}
 use denote.Triple.Entry.{onEntry}
 use denote.Triple.Spec.{tripleOf}
-use denote.Triple.Walked.{says, Stays, stay-ref, stay-none, gave-slice, goes-gave-slice, stay-none-slice, goes-none-slice, walkOf, goes-none, goes-ref, Walks, ends-at, walked}
+use denote.Triple.Walked.{says, Stays, stay-ref, stay-none, stay-none-slice, goes-none-slice, walkOf, goes-none, goes-ref, Walks, ends-at, walked}
 use denote.Exit.{yes}
 use Rattle.p3_undo.specs.Call.{undoTelex}
 use Rattle.p3_cells.specs.declared.Composition.{Composition}
