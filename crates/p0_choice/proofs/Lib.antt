@@ -1,3 +1,5 @@
 pub mod Choices
 pub mod Tables
 pub mod Arms
+pub mod Tests
+pub mod Numbers

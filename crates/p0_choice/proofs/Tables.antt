@@ -1,7 +1,7 @@
 -- A rule of a whole table, proved by one test that antt computes, and read off at each entry.
 use mathlib.Core.Path.{_≡_, refl, sym, ap, _∙_}
 use mathlib.Core.Bool.{Bool, true, false}
-use mathlib.Core.List.{List, [], _∷_}
+use mathlib.Core.List.{List, [], _∷_, _++_, map}
 use mathlib.Core.Logic.{_⊎_, inl, inr, ⊎-elim}
 use Prim.Native.Nat.{ℕ, zero, suc, _+_, _≤_, _<_}
 use native.Mathlib.Omega.{arith}
@@ -53,3 +53,38 @@ among-below ys n t x h = no (among x ys) (λ (e : among x ys ≡ true). leb-true
 
 pub among-above : (ys : List ℕ) (n : ℕ) → T (each (λ (y : ℕ). leb y n) ys) → (x : ℕ) → n < x → among x ys ≡ false
 among-above ys n t x h = no (among x ys) (λ (e : among x ys ≡ true). leb-true x n (each-among (λ (y : ℕ). leb y n) ys t x e)) h
+
+-- ---- among the numbers of two lists, of a list that was mapped, of a run
+pub among-left : (x : ℕ) (ys zs : List ℕ) → among x ys ≡ true → among x (ys ++ zs) ≡ true
+among-left x [] zs e = let z : _≡_ {A = ℕ} 0 1 = cc in absurd (omega arith)
+among-left x (y ∷ ys) zs e = go (eqb x y) e (λ q. among-left x ys zs q)
+  where
+    go : (b : Bool) → pick b true (among x ys) ≡ true → (among x ys ≡ true → among x (ys ++ zs) ≡ true) → pick b true (among x (ys ++ zs)) ≡ true
+    go true q f = refl
+    go false q f = f q
+
+pub among-right : (x : ℕ) (ys zs : List ℕ) → among x zs ≡ true → among x (ys ++ zs) ≡ true
+among-right x [] zs e = e
+among-right x (y ∷ ys) zs e = go (eqb x y) (among-right x ys zs e)
+  where
+    go : (b : Bool) → among x (ys ++ zs) ≡ true → pick b true (among x (ys ++ zs)) ≡ true
+    go true q = refl
+    go false q = q
+
+pub among-map : (f : ℕ → ℕ) (x : ℕ) (ys : List ℕ) → among x ys ≡ true → among (f x) (map f ys) ≡ true
+among-map f x [] e = let z : _≡_ {A = ℕ} 0 1 = cc in absurd (omega arith)
+among-map f x (y ∷ ys) e = go (eqb x y) refl (eqb (f x) (f y)) refl e (λ q. among-map f x ys q)
+  where
+    go : (b : Bool) → eqb x y ≡ b → (c : Bool) → eqb (f x) (f y) ≡ c → pick b true (among x ys) ≡ true
+        → (among x ys ≡ true → among (f x) (map f ys) ≡ true) → pick c true (among (f x) (map f ys)) ≡ true
+    go b p true r q g = refl
+    go true p false r q g = absurd (eqb-false (f x) (f y) r (ap f (eqb-true x y p)))
+    go false p false r q g = g q
+
+pub among-count : (n i x : ℕ) → i ≤ x → x < i + n → among x (count n i) ≡ true
+among-count zero i x l h = absurd (omega arith)
+among-count (suc n) i x l h = go (eqb x i) refl (λ (k : suc i ≤ x). among-count n (suc i) x k (omega arith))
+  where
+    go : (b : Bool) → eqb x i ≡ b → (suc i ≤ x → among x (count n (suc i)) ≡ true) → pick b true (among x (count n (suc i))) ≡ true
+    go true e f = refl
+    go false e f = f (let d : (x ≡ i → ⊥) = eqb-false x i e in omega arith)

@@ -17,7 +17,7 @@ use Rattle.p2_input_method.specs.declared.InputMethod.{InputMethod}
 use Rattle.p3_cells.specs.Cells.{limit, isBlank, typed, isCell, fitsAt, isSound, used, holding}
 use Rattle.p3_cells.specs.declared.Composition.{Composition}
 use Rattle.p3_cells.specs.declared.Mode.{Mode}
-use Rattle.p3_cells.proofs.Tests.{each-append, each-take}
+use Rattle.p0_choice.proofs.Tests.{each-append, each-take}
 use Rattle.p3_cells.proofs.Made.{typed-cell}
 use Rattle.p3_cells.proofs.Leaving.{changed-keeps}
 use Rattle.p3_cells.proofs.Holding.{count-fits, used-length, used-cells, holding-sound}

@@ -11,7 +11,7 @@ use Rattle.p0_choice.specs.Choice.{each}
 use Rattle.p3_cells.specs.Cells.{limit, blank, blanks, isCell, isSound, used, holding}
 use Rattle.p3_cells.specs.declared.Cell.{Cell}
 use Rattle.p3_cells.specs.declared.Composition.{Composition}
-use Rattle.p3_cells.proofs.Tests.{each-at, at-each}
+use Rattle.p0_choice.proofs.Tests.{each-at, at-each}
 use Rattle.p3_cells.proofs.Soundness.{sound-is, is-sound, cell-is, is-cell}
 
 -- ---- blank cells

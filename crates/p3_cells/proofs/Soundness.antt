@@ -15,7 +15,7 @@ use Rattle.p3_cells.specs.Cells.{limit, blank, isBlank, marks, tones, ma
 use Rattle.p3_cells.specs.Soundness.{SoundCell, Sound}
 use Rattle.p3_cells.specs.declared.Cell.{Cell}
 use Rattle.p3_cells.specs.declared.Composition.{Composition}
-use Rattle.p3_cells.proofs.Tests.{both-are, either-is, is-either, holds, each-from}
+use Rattle.p0_choice.proofs.Tests.{both-are, either-is, is-either, holds, each-from}
 
 off : (u : Bool) → pick u false true ≡ true → u ≡ false
 off true e = sym e

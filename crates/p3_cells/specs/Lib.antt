@@ -2,3 +2,4 @@ pub mod Cells
 pub mod Soundness
 pub mod Text
 pub mod Leaving
+pub mod Places

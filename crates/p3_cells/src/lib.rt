@@ -35,6 +35,12 @@ pub struct Composition {
     pub count: usize,
 }
 
+// Where a cell is found.
+pub enum Place {
+    Nowhere,
+    At(usize),
+}
+
 // What a call leaves: the composition, and its answer.
 pub struct Changed {
     pub comp: Composition,

@@ -15,8 +15,8 @@ use Rattle.p3_cells.specs.declared.Cell.{Cell}
 use Rattle.p3_row.specs.Row.{rowCells, bases}
 use Rattle.p3_row.proofs.Row.{row-length}
 use Rattle.p3_marks.specs.Uo.{baseAt, uoBack, uoPlace}
-use Rattle.p3_marks.specs.declared.Place.{Place}
-use Rattle.p3_marks.specs.declared.Place.the-variants.{Nowhere, At}
+use Rattle.p3_cells.specs.declared.Place.{Place}
+use Rattle.p3_cells.specs.declared.Place.the-variants.{Nowhere, At}
 use Rattle.p3_marks.proofs.Base.{row-base, same-base, same-length}
 
 pub uo-first : (row : List ℕ) → uoPlace (rowCells row) ≡ uoBack (rowCells row) 5 (length row)

@@ -8,8 +8,8 @@ use Rattle.p0_choice.specs.Choice.{pick}
 use Rattle.p3_cells.specs.Cells.{blank}
 use Rattle.p3_cells.specs.declared.Cell.{Cell}
 use Rattle.p3_marks.specs.Uo.{baseAt}
-use Rattle.p3_marks.specs.declared.Place.{Place}
-use Rattle.p3_marks.specs.declared.Place.the-variants.{Nowhere, At}
+use Rattle.p3_cells.specs.declared.Place.{Place}
+use Rattle.p3_cells.specs.declared.Place.the-variants.{Nowhere, At}
 
 -- "no q before": there is no cell before, or its base is no q
 unfoldable pub afterQ : List Cell → ℕ → Bool

@@ -9,8 +9,8 @@ use Rattle.p1_letters.specs.Alphabet.{asciiLower}
 use Rattle.p1_letters.specs.Vowels.{isVowel}
 use Rattle.p3_cells.specs.Cells.{blank}
 use Rattle.p3_cells.specs.declared.Cell.{Cell}
-use Rattle.p3_marks.specs.declared.Place.{Place}
-use Rattle.p3_marks.specs.declared.Place.the-variants.{Nowhere, At}
+use Rattle.p3_cells.specs.declared.Place.{Place}
+use Rattle.p3_cells.specs.declared.Place.the-variants.{Nowhere, At}
 
 -- "every base .. read, in ASCII lower case"
 unfoldable pub baseAt : List Cell → ℕ → ℕ

@@ -9,12 +9,7 @@ ghost use Rattle.p3_marks.specs.Mark.{isMarkKey, markPlace};
 use p1_letters as letters;
 use p2_input_method as input_method;
 use p2_input_method::InputMethod;
-
-// What a step finds: nothing, or the place of the cell that it changes.
-pub enum Place {
-    Nowhere,
-    At(usize),
-}
+use p3_cells::Place;
 
 // The u of the pair: an o after a u among the last 5, with no other vowel on the way.
 pub fn find_uo(row: &[u32]) -> Place

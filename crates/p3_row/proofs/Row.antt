@@ -12,7 +12,7 @@ use Rattle.p0_choice.specs.Choice.{each}
 use Rattle.p3_cells.specs.Cells.{blank, isCell}
 use Rattle.p3_cells.specs.Text.{letterOf}
 use Rattle.p3_cells.specs.declared.Cell.{Cell}
-use Rattle.p3_cells.proofs.Tests.{both-are}
+use Rattle.p0_choice.proofs.Tests.{both-are}
 use Rattle.p3_cells.proofs.Made.{letter-base}
 use Rattle.p3_row.specs.Row.{bare, rowCells, baseOf, bases}
 

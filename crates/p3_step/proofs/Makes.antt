@@ -12,6 +12,7 @@ use Rattle.p1_letters.specs.Alphabet.{asciiLower}
 use Rattle.p2_input_method.specs.Rules.{isToneKey, isHornKey, markFor}
 use Rattle.p2_input_method.specs.declared.InputMethod.{InputMethod}
 use Rattle.p3_cells.specs.Cells.{blank, typed}
+use Rattle.p3_cells.specs.Places.{placeOr}
 use Rattle.p3_cells.specs.declared.Cell.{Cell}
 use Rattle.p3_cells.proofs.Made.{tone-key-small}
 use Rattle.p3_place.specs.Place.{anyVowel, tonePlace}
@@ -19,13 +20,13 @@ use Rattle.p3_place.proofs.Bound.{vowel-some, tone-below}
 use Rattle.p3_marks.specs.Uo.{baseAt, uoPlace, hornU, hornO, uoMade}
 use Rattle.p3_marks.specs.Ua.{uaPlace, marked, uaMade}
 use Rattle.p3_marks.specs.Mark.{markPlace, markMade}
-use Rattle.p3_marks.specs.declared.Place.{Place}
-use Rattle.p3_marks.specs.declared.Place.the-variants.{Nowhere, At}
+use Rattle.p3_cells.specs.declared.Place.{Place}
+use Rattle.p3_cells.specs.declared.Place.the-variants.{Nowhere, At}
 use Rattle.p3_marks.proofs.Uo.{uo-below}
 use Rattle.p3_marks.proofs.Ua.{ua-below}
 use Rattle.p3_marks.proofs.Mark.{place-marks}
-use Rattle.p3_step.specs.Key.{stepOr, withTone, toneMade, appended, markOrLater, hornOrLater, keyCells}
-use Rattle.p3_step.specs.Step.{placeOr, toneFor, uoFor, uaFor, markAt, markStep, uaStep, uoStep, stepOf, putCell, alsoCell}
+use Rattle.p3_step.specs.Key.{withTone, toneMade, appended, markOrLater, hornOrLater, keyCells}
+use Rattle.p3_step.specs.Step.{toneFor, uoFor, uaFor, markAt, markStep, uaStep, uoStep, stepOf, putCell, alsoCell}
 use Rattle.p3_step.specs.declared.Change.the-variants.{Nothing, Tone, Mark, Pair, Append}
 use Rattle.p3_step.specs.declared.Step.{Step}
 
@@ -121,7 +122,7 @@ mark-step-makes m cs key k = go (markPlace m cs k) refl
   where
     go : (p : Place) → markPlace m cs k ≡ p
         → Makes (placeOr p (λ i. markAt cs (markFor m (baseAt cs i) k) i) (record { change = Append; at = length cs; also = length cs; mark = 0; count = length cs + 1 })) cs
-        (stepOr p (λ i. set cs i (marked (getD cs i blank) (markFor m (baseAt cs i) k))) (appended cs key)) key k
+        (placeOr p (λ i. set cs i (marked (getD cs i blank) (markFor m (baseAt cs i) k))) (appended cs key)) key k
     go Nowhere e = append-makes cs key k
     go (At i) e = mark-makes cs i (markFor m (baseAt cs i) k) key k (place-marks m cs k i e .below)
 
@@ -132,7 +133,7 @@ uo-step-makes m cs key k = go (isHornKey m k) (uoPlace cs) (uaPlace cs) refl ref
     go : (v : Bool) (p q : Place) → uoPlace cs ≡ p → uaPlace cs ≡ q
         → Makes (placeOr (pick v p Nowhere) (λ i. record { change = Pair; at = i; also = i + 1; mark = 0; count = length cs })
         (placeOr (pick v q Nowhere) (λ i. markAt cs 0x1b0 i) (markStep m cs k))) cs
-        (pick v (stepOr p (uoMade cs) (stepOr q (λ i. set cs i (marked (getD cs i blank) 0x1b0)) (markOrLater m cs key k))) (markOrLater m cs key k)) key k
+        (pick v (placeOr p (uoMade cs) (placeOr q (λ i. set cs i (marked (getD cs i blank) 0x1b0)) (markOrLater m cs key k))) (markOrLater m cs key k)) key k
     go false p q e f = mark-step-makes m cs key k
     go true (At i) q e f = pair-makes cs i key k (uo-below cs i e)
     go true Nowhere (At i) e f = mark-makes cs i 0x1b0 key k (ua-below cs i f)

@@ -8,18 +8,19 @@ use Rattle.p0_choice.specs.Choice.{pick, each}
 use Rattle.p2_input_method.specs.Rules.{markFor}
 use Rattle.p2_input_method.specs.declared.InputMethod.{InputMethod}
 use Rattle.p3_cells.specs.Cells.{isCell}
+use Rattle.p3_cells.specs.Places.{placeOr}
 use Rattle.p3_cells.specs.declared.Cell.{Cell}
 use Rattle.p3_row.specs.Row.{rowCells, bases}
 use Rattle.p3_place.proofs.Same.{any-same, tone-place-same}
 use Rattle.p3_marks.specs.Uo.{baseAt}
 use Rattle.p3_marks.specs.Mark.{markPlace}
-use Rattle.p3_marks.specs.declared.Place.{Place}
-use Rattle.p3_marks.specs.declared.Place.the-variants.{Nowhere, At}
+use Rattle.p3_cells.specs.declared.Place.{Place}
+use Rattle.p3_cells.specs.declared.Place.the-variants.{Nowhere, At}
 use Rattle.p3_marks.proofs.Base.{same-base, same-length}
 use Rattle.p3_marks.proofs.Uo.{uo-same}
 use Rattle.p3_marks.proofs.Ua.{ua-same}
 use Rattle.p3_marks.proofs.Mark.{mark-same}
-use Rattle.p3_step.specs.Step.{placeOr, toneFor, uoFor, uaFor, markAt, markStep, uaStep, uoStep, stepOf}
+use Rattle.p3_step.specs.Step.{toneFor, uoFor, uaFor, markAt, markStep, uaStep, uoStep, stepOf}
 use Rattle.p3_step.specs.declared.Change.the-variants.{Append}
 use Rattle.p3_step.specs.declared.Step.{Step}
 

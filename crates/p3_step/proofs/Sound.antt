@@ -11,20 +11,21 @@ use Rattle.p1_letters.specs.Alphabet.{inAlphabet, asciiLower}
 use Rattle.p2_input_method.specs.Rules.{isToneKey, isHornKey, markFor}
 use Rattle.p2_input_method.specs.declared.InputMethod.{InputMethod}
 use Rattle.p3_cells.specs.Cells.{blank, typed, marks, isCell}
+use Rattle.p3_cells.specs.Places.{placeOr}
 use Rattle.p3_cells.specs.declared.Cell.{Cell}
-use Rattle.p3_cells.proofs.Tests.{each-at, each-set, each-append}
+use Rattle.p0_choice.proofs.Tests.{each-at, each-set, each-append}
 use Rattle.p3_cells.proofs.Made.{tone-key-tone, mark-for-mark, typed-cell, toned-cell, marked-cell, bare-marked-cell}
 use Rattle.p3_place.specs.Place.{anyVowel, tonePlace}
 use Rattle.p3_place.proofs.Bound.{vowel-some, tone-below}
 use Rattle.p3_marks.specs.Uo.{baseAt, uoPlace, hornU, hornO, uoMade}
 use Rattle.p3_marks.specs.Ua.{uaPlace, marked, uaMade}
 use Rattle.p3_marks.specs.Mark.{markPlace, markMade}
-use Rattle.p3_marks.specs.declared.Place.{Place}
-use Rattle.p3_marks.specs.declared.Place.the-variants.{Nowhere, At}
+use Rattle.p3_cells.specs.declared.Place.{Place}
+use Rattle.p3_cells.specs.declared.Place.the-variants.{Nowhere, At}
 use Rattle.p3_marks.proofs.Uo.{uo-below}
 use Rattle.p3_marks.proofs.Ua.{ua-below}
 use Rattle.p3_marks.proofs.Mark.{place-marks}
-use Rattle.p3_step.specs.Key.{stepOr, withTone, toneMade, appended, markOrLater, hornOrLater, keyCells}
+use Rattle.p3_step.specs.Key.{withTone, toneMade, appended, markOrLater, hornOrLater, keyCells}
 
 module _ (m : InputMethod) (cs : List Cell) (s : each isCell cs ≡ true) where
   -- a mark on one cell
@@ -49,7 +50,7 @@ module _ (m : InputMethod) (cs : List Cell) (s : each isCell cs ≡ true) where
     unfolding markOrLater markMade appended
     mark-kept k = go (markPlace m cs k) refl
       where
-        go : (p : Place) → markPlace m cs k ≡ p → each isCell (stepOr p (λ i. set cs i (marked (getD cs i blank) (markFor m (baseAt cs i) k))) (cs ++ (typed key ∷ []))) ≡ true
+        go : (p : Place) → markPlace m cs k ≡ p → each isCell (placeOr p (λ i. set cs i (marked (getD cs i blank) (markFor m (baseAt cs i) k))) (cs ++ (typed key ∷ []))) ≡ true
         go Nowhere e = each-append isCell cs (typed key) s (typed-cell key a)
         go (At i) e = let h = place-marks m cs k i e in marked-kept i (markFor m (baseAt cs i) k) (h .below) (mark-for-mark m (baseAt cs i) k (h .rule))
 
@@ -58,7 +59,7 @@ module _ (m : InputMethod) (cs : List Cell) (s : each isCell cs ≡ true) where
     horn-kept k = go (isHornKey m k) (uoPlace cs) (uaPlace cs) refl refl
       where
         go : (v : Bool) (p q : Place) → uoPlace cs ≡ p → uaPlace cs ≡ q
-            → each isCell (pick v (stepOr p (uoMade cs) (stepOr q (λ i. set cs i (marked (getD cs i blank) 0x1b0)) (markOrLater m cs key k))) (markOrLater m cs key k)) ≡ true
+            → each isCell (pick v (placeOr p (uoMade cs) (placeOr q (λ i. set cs i (marked (getD cs i blank) 0x1b0)) (markOrLater m cs key k))) (markOrLater m cs key k)) ≡ true
         go false p q e f = mark-kept k
         go true (At i) q e f = pair-kept i (uo-below cs i e)
         go true Nowhere (At i) e f = marked-kept i 0x1b0 (ua-below cs i f) horn-mark

@@ -19,8 +19,8 @@ use Rattle.p3_place.proofs.Bound.{vowel-some}
 use Rattle.p3_marks.specs.Uo.{baseAt, uoPlace}
 use Rattle.p3_marks.specs.Ua.{uaPlace}
 use Rattle.p3_marks.specs.Mark.{markPlace}
-use Rattle.p3_marks.specs.declared.Place.{Place}
-use Rattle.p3_marks.specs.declared.Place.the-variants.{Nowhere, At}
+use Rattle.p3_cells.specs.declared.Place.{Place}
+use Rattle.p3_cells.specs.declared.Place.the-variants.{Nowhere, At}
 use Rattle.p3_marks.proofs.Base.{row-base}
 use Rattle.p3_marks.proofs.Uo.{uo-below}
 use Rattle.p3_marks.proofs.Mark.{place-marks}

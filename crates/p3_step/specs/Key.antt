@@ -8,18 +8,12 @@ use Rattle.p1_letters.specs.Alphabet.{asciiLower}
 use Rattle.p2_input_method.specs.Rules.{isToneKey, isHornKey}
 use Rattle.p2_input_method.specs.declared.InputMethod.{InputMethod}
 use Rattle.p3_cells.specs.Cells.{blank, typed}
+use Rattle.p3_cells.specs.Places.{placeOr}
 use Rattle.p3_cells.specs.declared.Cell.{Cell}
 use Rattle.p3_place.specs.Place.{anyVowel, tonePlace}
 use Rattle.p3_marks.specs.Uo.{uoPlace, uoMade}
 use Rattle.p3_marks.specs.Ua.{uaPlace, uaMade}
 use Rattle.p3_marks.specs.Mark.{markPlace, markMade}
-use Rattle.p3_marks.specs.declared.Place.{Place}
-use Rattle.p3_marks.specs.declared.Place.the-variants.{Nowhere, At}
-
--- the cells after a step, or what the later steps make of them
-abbrev pub stepOr : Place → (ℕ → List Cell) → List Cell → List Cell
-stepOr Nowhere made later = later
-stepOr (At i) made later = made i
 
 -- *Tone.* "The tone is set on one cell, and only there."
 unfoldable pub withTone : Cell → ℕ → Cell
@@ -34,12 +28,12 @@ appended cs key = cs ++ (typed key ∷ [])
 
 -- *Mark*, else *Append*; k is the key in ASCII lower case
 unfoldable pub markOrLater : InputMethod → List Cell → ℕ → ℕ → List Cell
-markOrLater m cs key k = stepOr (markPlace m cs k) (markMade m cs k) (appended cs key)
+markOrLater m cs key k = placeOr (markPlace m cs k) (markMade m cs k) (appended cs key)
 
 -- *uo* and *ua*, on their key, else the later ones
 unfoldable pub hornOrLater : InputMethod → List Cell → ℕ → ℕ → List Cell
 hornOrLater m cs key k =
-    pick (isHornKey m k) (stepOr (uoPlace cs) (uoMade cs) (stepOr (uaPlace cs) (uaMade cs) (markOrLater m cs key k)))
+    pick (isHornKey m k) (placeOr (uoPlace cs) (uoMade cs) (placeOr (uaPlace cs) (uaMade cs) (markOrLater m cs key k)))
     (markOrLater m cs key k)
 
 -- *Tone*: "k is a tone key and any cell's letter in the whole composition .. is a composer vowel", else the later ones

@@ -8,22 +8,19 @@ use Rattle.p0_choice.specs.Choice.{pick}
 use Rattle.p2_input_method.specs.Rules.{isToneKey, isHornKey, markFor}
 use Rattle.p2_input_method.specs.declared.InputMethod.{InputMethod}
 use Rattle.p3_cells.specs.Cells.{typed}
+use Rattle.p3_cells.specs.Places.{placeOr}
 use Rattle.p3_cells.specs.declared.Cell.{Cell}
 use Rattle.p3_place.specs.Place.{anyVowel, tonePlace}
 use Rattle.p3_marks.specs.Uo.{baseAt, uoPlace, hornU, hornO}
 use Rattle.p3_marks.specs.Ua.{uaPlace, marked}
 use Rattle.p3_marks.specs.Mark.{markPlace}
-use Rattle.p3_marks.specs.declared.Place.{Place}
-use Rattle.p3_marks.specs.declared.Place.the-variants.{Nowhere, At}
+use Rattle.p3_cells.specs.declared.Place.{Place}
+use Rattle.p3_cells.specs.declared.Place.the-variants.{Nowhere, At}
 use Rattle.p3_step.specs.declared.Change.{Change}
 use Rattle.p3_step.specs.declared.Change.the-variants.{Nothing, Tone, Mark, Pair, Append}
 use Rattle.p3_step.specs.declared.Step.{Step}
 
 -- ---- the step
-abbrev pub placeOr : {A : Type 0} → Place → (ℕ → A) → A → A
-placeOr Nowhere f a = a
-placeOr (At i) f a = f i
-
 unfoldable pub toneFor : InputMethod → List Cell → ℕ → Place
 toneFor m cs k = pick (isToneKey m k) (pick (anyVowel cs) (At (tonePlace cs)) Nowhere) Nowhere
 

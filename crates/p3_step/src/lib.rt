@@ -11,8 +11,8 @@ use p2_input_method as input_method;
 use p2_input_method::InputMethod;
 use p3_cells as cells;
 use p3_cells::Cell;
+use p3_cells::Place;
 use p3_marks as marks;
-use p3_marks::Place;
 use p3_place as place;
 
 // What comes at a place: the cell as it is, with a tone, with a mark, the ư of a pair, or a typed letter.

@@ -17,13 +17,14 @@ use Rattle.p2_input_method.specs.declared.InputMethod.the-variants.{Telex, Vni}
 use Rattle.p2_input_method.specs.declared.MarkRule.{MarkRule}
 use Rattle.p2_input_method.specs.declared.UndoBehavior.{UndoBehavior}
 use Rattle.p3_cells.specs.Cells.{limit, blank, isSound, used}
+use Rattle.p3_cells.specs.Places.{placeOr}
 use Rattle.p3_cells.specs.declared.Cell.{Cell}
 use Rattle.p3_cells.specs.declared.Composition.{Composition}
 use Rattle.p3_cells.proofs.Holding.{count-fits, used-length}
 use Rattle.p3_undo.specs.Raw.{endsIn, active}
-use Rattle.p3_undo.specs.Undo.{lastWith, hasTone, hasMark, orNext, ruleAt, byRules, toneAt, toUndo}
-use Rattle.p3_undo.specs.declared.Place.{Place}
-use Rattle.p3_undo.specs.declared.Place.the-variants.{Nowhere, At}
+use Rattle.p3_undo.specs.Undo.{lastWith, hasTone, hasMark, ruleAt, byRules, toneAt, toUndo}
+use Rattle.p3_cells.specs.declared.Place.{Place}
+use Rattle.p3_cells.specs.declared.Place.the-variants.{Nowhere, At}
 use Rattle.p3_undo.specs.declared.Undoing.{Undoing}
 use Rattle.p3_undo.specs.declared.Undoing.the-variants.{Nothing, Tone, Mark}
 
@@ -50,7 +51,7 @@ place-below : (b : Bool) (p : Place) (n j : ℕ) → pick b p Nowhere ≡ At j �
 place-below true p n j e f = f e
 place-below false p n j e f = let z : _≡_ {A = ℕ} 0 1 = cc in absurd (omega arith)
 
-next-fine : (n : ℕ) (p : Place) (made : ℕ → Undoing) (next : Undoing) → ((i : ℕ) → p ≡ At i → Fine n (made i)) → Fine n next → Fine n (orNext p made next)
+next-fine : (n : ℕ) (p : Place) (made : ℕ → Undoing) (next : Undoing) → ((i : ℕ) → p ≡ At i → Fine n (made i)) → Fine n next → Fine n (placeOr p made next)
 next-fine n Nowhere made next f g = g
 next-fine n (At i) made next f g = f i refl
 

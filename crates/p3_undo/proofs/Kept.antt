@@ -14,7 +14,7 @@ use Rattle.p1_letters.specs.Alphabet.{inAlphabet, allLetters, asciiLower, ascii
 use Rattle.p3_cells.specs.Cells.{limit, blank, isCell, isSound, used, holding}
 use Rattle.p3_cells.specs.declared.Cell.{Cell}
 use Rattle.p3_cells.specs.declared.Composition.{Composition}
-use Rattle.p3_cells.proofs.Tests.{both-are, each-at, each-set}
+use Rattle.p0_choice.proofs.Tests.{both-are, each-at, each-set}
 use Rattle.p3_cells.proofs.Soundness.{cell-is, is-cell}
 use Rattle.p3_cells.proofs.Made.{toneless-cell}
 use Rattle.p3_cells.proofs.Holding.{count-fits, used-length, used-cells, holding-sound}

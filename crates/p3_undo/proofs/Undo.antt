@@ -16,12 +16,13 @@ use Rattle.p2_input_method.specs.declared.InputMethod.{InputMethod}
 use Rattle.p2_input_method.specs.declared.InputMethod.the-variants.{Telex, Vni}
 use Rattle.p2_input_method.specs.declared.MarkRule.{MarkRule}
 use Rattle.p3_cells.specs.Cells.{limit, blank, used}
+use Rattle.p3_cells.specs.Places.{placeOr}
 use Rattle.p3_cells.specs.declared.Cell.{Cell}
 use Rattle.p3_cells.specs.declared.Composition.{Composition}
 use Rattle.p3_undo.specs.Raw.{endsIn, active}
-use Rattle.p3_undo.specs.Undo.{lastWith, hasTone, hasMark, orNext, ruleAt, byRules, toneAt, toUndo, toneless, restored}
-use Rattle.p3_undo.specs.declared.Place.{Place}
-use Rattle.p3_undo.specs.declared.Place.the-variants.{Nowhere, At}
+use Rattle.p3_undo.specs.Undo.{lastWith, hasTone, hasMark, ruleAt, byRules, toneAt, toUndo, toneless, restored}
+use Rattle.p3_cells.specs.declared.Place.{Place}
+use Rattle.p3_cells.specs.declared.Place.the-variants.{Nowhere, At}
 use Rattle.p3_undo.specs.declared.Undoing.{Undoing}
 use Rattle.p3_undo.specs.declared.Undoing.the-variants.{Nothing, Tone, Mark}
 
@@ -90,7 +91,7 @@ module _ (cs : List Cell) (raw : List ℕ) (t : ℕ) (s : Undoing) (i : ℕ) (e 
   rules-none l = sym (e ∙ rw (drop-of-length-le (markRules Telex) l) refl)
 
   module _ (r : MarkRule) (p : Place) (l : i < 7) (f : r ≡ getD (markRules Telex) i noRule) (q : p ≡ ruleAt cs raw t r) where
-    rules-turn : s ≡ orNext p (λ (j : ℕ). Mark j (r .first) (r .undo)) (byRules cs raw t (drop (i + 1) (markRules Telex)))
+    rules-turn : s ≡ placeOr p (λ (j : ℕ). Mark j (r .first) (r .undo)) (byRules cs raw t (drop (i + 1) (markRules Telex)))
     unfolding byRules markRules
     rules-turn = e ∙ rw (add-one i, drop-cons (markRules Telex) i noRule l, ← f, ← q) refl
 

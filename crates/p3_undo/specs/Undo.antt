@@ -11,10 +11,11 @@ use Rattle.p2_input_method.specs.declared.InputMethod.{InputMethod}
 use Rattle.p2_input_method.specs.declared.InputMethod.the-variants.{Telex, Vni}
 use Rattle.p2_input_method.specs.declared.MarkRule.{MarkRule}
 use Rattle.p3_cells.specs.Cells.{blank}
+use Rattle.p3_cells.specs.Places.{placeOr}
 use Rattle.p3_cells.specs.declared.Cell.{Cell}
 use Rattle.p3_undo.specs.Raw.{endsIn, active}
-use Rattle.p3_undo.specs.declared.Place.{Place}
-use Rattle.p3_undo.specs.declared.Place.the-variants.{Nowhere, At}
+use Rattle.p3_cells.specs.declared.Place.{Place}
+use Rattle.p3_cells.specs.declared.Place.the-variants.{Nowhere, At}
 use Rattle.p3_undo.specs.declared.Undoing.{Undoing}
 use Rattle.p3_undo.specs.declared.Undoing.the-variants.{Nothing, Tone, Mark}
 
@@ -31,11 +32,6 @@ hasTone t x = pick (eqb t 0) false (eqb (x .tone) t)
 unfoldable pub hasMark : ℕ → Cell → Bool
 hasMark m x = pick (eqb (x .mark) m) (eqb (x .tone) 0) false
 
--- what is undone at the place found, or what comes next where there is none
-abbrev pub orNext : Place → (ℕ → Undoing) → Undoing → Undoing
-orNext Nowhere made next = next
-orNext (At i) made next = made i
-
 -- a rule "ending in t .. whose last occurrence in the lowered raw string has none of a e i o u y after it: the last cell
 -- with that mark and no tone"
 unfoldable pub ruleAt : List Cell → List ℕ → ℕ → MarkRule → Place
@@ -45,7 +41,7 @@ ruleAt cs raw t r =
 -- "each mark rule .. in order", "No such cell: next rule."
 unfoldable pub byRules : List Cell → List ℕ → ℕ → List MarkRule → Undoing
 byRules cs raw t [] = Nothing
-byRules cs raw t (r ∷ rs) = orNext (ruleAt cs raw t r) (λ i. Mark i (r .first) (r .undo)) (byRules cs raw t rs)
+byRules cs raw t (r ∷ rs) = placeOr (ruleAt cs raw t r) (λ i. Mark i (r .first) (r .undo)) (byRules cs raw t rs)
 
 -- "If the raw string ends in t, either case, the last cell with tone t [..] Otherwise each mark rule"
 unfoldable pub toneAt : List Cell → List ℕ → ℕ → Place
@@ -53,7 +49,7 @@ toneAt cs raw t = pick (endsIn raw t) (lastWith (hasTone t) cs (length cs)) Nowh
 
 -- "only under Telex"
 unfoldable pub toUndo : InputMethod → List Cell → List ℕ → ℕ → Undoing
-toUndo Telex cs raw t = orNext (toneAt cs raw t) (λ i. Tone i) (byRules cs raw t (markRules Telex))
+toUndo Telex cs raw t = placeOr (toneAt cs raw t) (λ i. Tone i) (byRules cs raw t (markRules Telex))
 toUndo Vni cs raw t = Nothing
 
 -- "loses it"

@@ -21,6 +21,7 @@ use p2_input_method::UndoBehavior;
 use p3_cells as cells;
 use p3_cells::Cell;
 use p3_cells::Composition;
+use p3_cells::Place;
 
 // The longest raw string.
 pub const RAW: usize = 64;
@@ -35,11 +36,6 @@ pub enum TelexUndo {
 pub struct Undone {
     pub comp: Composition,
     pub answer: TelexUndo,
-}
-
-pub enum Place {
-    Nowhere,
-    At(usize),
 }
 
 // The cell that loses its tone; or the cell that gets a rule's first letter back, with that letter and the rule's behaviour.

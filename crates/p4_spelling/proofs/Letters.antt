@@ -11,7 +11,7 @@ use lib.ListN.{getD}
 use borrow.Author.Tests.{ltb-false, leb-true, eqb-true, eqb-false}
 use Rattle.p0_choice.specs.Choice.{pick, among, each, count, same}
 use Rattle.p0_choice.specs.Text.{word, words, wordsFrom}
-use Rattle.p0_choice.proofs.Tables.{each-among, same-true}
+use Rattle.p0_choice.proofs.Tables.{each-among, same-true, among-left, among-right, among-map, among-count}
 use Rattle.p1_letters.specs.Alphabet.{lower, isAsciiCapital, smallBy32, smallBy1, smallHigh, smallNext, isSmall, isCapital, inAlphabet, allLetters}
 use Rattle.p1_letters.specs.Tones.{toneOff, offIn, toneRows}
 use Rattle.p4_rows.specs.Rows.{Word, onsetRows, vowelRows, codaRows}
@@ -35,22 +35,6 @@ joined (r ∷ rs) = r ++ joined rs
 unfoldable pub touched : List (List ℕ)
 touched = count 26 65 ∷ map (λ (y : ℕ). y - 32) smallBy32 ∷ map (λ (y : ℕ). y - 1) smallBy1 ∷ count 89 0x1ea0 ∷ toneRows
 
-among-left : (x : ℕ) (ys zs : List ℕ) → among x ys ≡ true → among x (ys ++ zs) ≡ true
-among-left x [] zs e = let z : _≡_ {A = ℕ} 0 1 = cc in absurd (omega arith)
-among-left x (y ∷ ys) zs e = go (eqb x y) e (λ q. among-left x ys zs q)
-  where
-    go : (b : Bool) → pick b true (among x ys) ≡ true → (among x ys ≡ true → among x (ys ++ zs) ≡ true) → pick b true (among x (ys ++ zs)) ≡ true
-    go true q f = refl
-    go false q f = f q
-
-among-right : (x : ℕ) (ys zs : List ℕ) → among x zs ≡ true → among x (ys ++ zs) ≡ true
-among-right x [] zs e = e
-among-right x (y ∷ ys) zs e = go (eqb x y) (among-right x ys zs e)
-  where
-    go : (b : Bool) → among x (ys ++ zs) ≡ true → pick b true (among x (ys ++ zs)) ≡ true
-    go true q = refl
-    go false q = q
-
 among-joined : (x : ℕ) (rs : List (List ℕ)) (k : ℕ) → among x (getD rs k []) ≡ true → among x (joined rs) ≡ true
 unfolding joined
 among-joined x [] zero e = let z : _≡_ {A = ℕ} 0 1 = cc in absurd (omega arith)
@@ -61,24 +45,6 @@ among-joined x (r ∷ rs) (suc k) e = among-right x r (joined rs) (among-joined 
 among-later : (x : ℕ) (r : List ℕ) (rs : List (List ℕ)) → among x (joined rs) ≡ true → among x (joined (r ∷ rs)) ≡ true
 unfolding joined
 among-later x r rs e = among-right x r (joined rs) e
-
-among-map : (f : ℕ → ℕ) (x : ℕ) (ys : List ℕ) → among x ys ≡ true → among (f x) (map f ys) ≡ true
-among-map f x [] e = let z : _≡_ {A = ℕ} 0 1 = cc in absurd (omega arith)
-among-map f x (y ∷ ys) e = go (eqb x y) refl (eqb (f x) (f y)) refl e (λ q. among-map f x ys q)
-  where
-    go : (b : Bool) → eqb x y ≡ b → (c : Bool) → eqb (f x) (f y) ≡ c → pick b true (among x ys) ≡ true
-        → (among x ys ≡ true → among (f x) (map f ys) ≡ true) → pick c true (among (f x) (map f ys)) ≡ true
-    go b p true r q g = refl
-    go true p false r q g = absurd (eqb-false (f x) (f y) r (ap f (eqb-true x y p)))
-    go false p false r q g = g q
-
-among-count : (n i x : ℕ) → i ≤ x → x < i + n → among x (count n i) ≡ true
-among-count zero i x l h = absurd (omega arith)
-among-count (suc n) i x l h = go (eqb x i) refl (λ (k : suc i ≤ x). among-count n (suc i) x k (omega arith))
-  where
-    go : (b : Bool) → eqb x i ≡ b → (suc i ≤ x → among x (count n (suc i)) ≡ true) → pick b true (among x (count n (suc i))) ≡ true
-    go true e f = refl
-    go false e f = f (let d : (x ≡ i → ⊥) = eqb-false x i e in omega arith)
 
 -- the letters that the tests of `lower` find are touched
 module _ (x : ℕ) where

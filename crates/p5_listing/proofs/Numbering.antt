@@ -9,7 +9,8 @@ use Rattle.p4_rows.specs.Rows.{Word}
 use Rattle.p4_spelling.specs.Verdict.{verdict}
 use Rattle.p5_trie.specs.Order.{Before, AtMost}
 use Rattle.p5_trie.specs.Trie.{size, nth, upTo}
-use Rattle.p5_trie.proofs.Order.{below-or-not, not-after}
+use Rattle.p0_choice.proofs.Numbers.{below-or-not}
+use Rattle.p5_trie.proofs.Order.{not-after}
 use Rattle.p5_trie.proofs.Words.{Sorted, Numbered, sorted, cuts, upTo-nth, numbered, every-nth, letters-nth}
 use Rattle.p5_listing.specs.Listed.{plain, Listed, Found, Numbering, Follows, Last}
 use Rattle.p5_listing.specs.Cells.{listing}

@@ -6,7 +6,8 @@ use mathlib.Core.Logic.{_⊎_, ⊎-elim}
 use native.Mathlib.Omega.{arith}
 use Rattle.p4_rows.specs.Rows.{Word}
 use Rattle.p5_trie.specs.Order.{Before}
-use Rattle.p5_trie.proofs.Order.{three-ways, before-one-way, at-most-both}
+use Rattle.p0_choice.proofs.Numbers.{three-ways}
+use Rattle.p5_trie.proofs.Order.{before-one-way, at-most-both}
 use Rattle.p5_listing.specs.Listed.{Listed, Found, Numbering, Follows}
 
 pub one-follows : (w r s : Word) → Follows w r → Follows w s → r ≡ s

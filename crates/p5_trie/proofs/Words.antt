@@ -12,7 +12,7 @@ use borrow.Author.Tests.{lt-ltb, le-ltb, eq-eqb, ne-eqb, eqb-true}
 use Rattle.p0_choice.specs.Choice.{pick, each}
 use Rattle.p5_trie.specs.Order.{Before, AtMost}
 use Rattle.p5_trie.specs.Trie.{Trie, none, cell, one, size, nth, upTo}
-use Rattle.p5_trie.proofs.Order.{below-or-not, three-ways}
+use Rattle.p0_choice.proofs.Numbers.{below-or-not, three-ways}
 use Rattle.p5_trie.proofs.Tests.{endsHere, holds, every, isAbove, isSorted}
 
 -- the letters of cells beside each other ascend

@@ -18,7 +18,7 @@ use Rattle.p3_cells.specs.declared.Cell.{Cell}
 use Rattle.p3_cells.specs.declared.Composition.{Composition}
 use Rattle.p3_cells.specs.declared.Mode.{Mode}
 use Rattle.p3_cells.specs.declared.Mode.the-variants.{Vietnamese, English}
-use Rattle.p3_cells.proofs.Tests.{each-from}
+use Rattle.p0_choice.proofs.Tests.{each-from}
 use Rattle.p6_bytes.specs.Bytes.{size, methodByte, modeByte, flagByte, cellBytes, cellsBytes, bytesOf, byteAt, cellAt, cellsAt, methodOf, modeOf, compositionOf, start, spellsCell, bytesSound}
 use Rattle.p6_bytes.proofs.Reading.{cells-length}
 use Rattle.p6_bytes.proofs.Writing.{cell-length, bytes-length}

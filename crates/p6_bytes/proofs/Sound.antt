@@ -20,7 +20,8 @@ use Rattle.p2_input_method.specs.declared.InputMethod.{InputMethod}
 use Rattle.p3_cells.specs.declared.Composition.{Composition}
 use Rattle.p3_cells.specs.declared.Mode.{Mode}
 use Rattle.p3_cells.proofs.Holding.{length-blanks}
-use Rattle.p3_cells.proofs.Tests.{both-are, are-both, holds, each-from}
+use Rattle.p0_choice.proofs.Numbers.{below-or-not}
+use Rattle.p0_choice.proofs.Tests.{both-are, are-both, holds, each-from}
 use Rattle.p3_cells.proofs.Soundness.{sound-is, is-sound, cell-is, is-cell}
 use Rattle.p6_bytes.specs.Bytes.{size, byteAt, cellAt, cellsAt, methodOf, modeOf, compositionOf, start, spellsCell, bytesSound}
 use Rattle.p6_bytes.specs.Parts.{cellFits, isZero, cellsFit, zeroFrom}
@@ -28,13 +29,6 @@ use Rattle.p6_bytes.proofs.Reading.{cells-length, cells-at}
 
 each-is : (p : ℕ → Bool) (n i : ℕ) → each p (from n i) ≡ true → (j : ℕ) → i ≤ j → j < i + n → p j ≡ true
 each-is p n i e = each-count p n i (holds (each p (from n i)) e)
-
-lt-or-ge : (i n : ℕ) → (i < n) ⊎ (n ≤ i)
-lt-or-ge i n = go (ltb i n) refl
-  where
-    go : (t : Bool) → ltb i n ≡ t → (i < n) ⊎ (n ≤ i)
-    go true e = inl (ltb-true i n e)
-    go false e = inr (ltb-false i n e)
 
 blanks-at : (n i : ℕ) → getD (blanks n) i blank ≡ blank
 blanks-at zero i = refl
@@ -189,7 +183,7 @@ module _ (b : List ℕ) where
         past-zero i k h j g = eqb-true (byteAt b (start i + j)) 0 (each-is (isZero b) (length b - start n) (start n) z (start i + j) (omega arith) (omega arith))
 
         flags : (i : ℕ) → i < limit → spellsCell b i ≡ true
-        flags i h = ⊎-elim (λ (g : i < n). used-fits i g .0) (λ (g : n ≤ i). zero-flag b i (past-zero i g h 7 (omega arith))) (lt-or-ge i n)
+        flags i h = ⊎-elim (λ (g : i < n). used-fits i g .0) (λ (g : n ≤ i). zero-flag b i (past-zero i g h 7 (omega arith))) (below-or-not i n)
 
         composed : Sound (compositionOf b)
         composed = record {
@@ -234,7 +228,7 @@ module _ (b : List ℕ) (s : bytesSound b ≡ true) where
           let d : i ≡ length (cellsAt (byteAt b 2) b 3) + (i - byteAt b 2) = omega arith in
           cell-past b s i g h ∙ sym (ap (λ (k : ℕ). getD (cellsAt (byteAt b 2) b 3 ++ blanks (limit - byteAt b 2)) k blank) d
           ∙ getD-append-add (cellsAt (byteAt b 2) b 3) (blanks (limit - byteAt b 2)) (i - byteAt b 2) blank ∙ blanks-at (limit - byteAt b 2) (i - byteAt b 2)))
-          (lt-or-ge i (byteAt b 2))
+          (below-or-not i (byteAt b 2))
 
   pub decoded : (xs : List Cell) (n : ℕ) (m : InputMethod) (o : Mode) → n ≡ byteAt b 2 → xs ≡ cellsAt n b 3 ++ blanks (limit - n) → m ≡ methodOf (byteAt b 0) → o ≡ modeOf (byteAt b 1)
       → record { cells = xs; method = m; mode = o; count = n } ≡ compositionOf b

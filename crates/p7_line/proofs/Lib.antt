@@ -3,5 +3,4 @@ pub mod Written
 pub mod SameWord
 pub mod Keys
 pub mod Texts
-pub mod Shown
 pub mod Typing

@@ -34,7 +34,7 @@ use Rattle.p3_cells.specs.declared.Changed.{Changed}
 use Rattle.p3_key.proofs.Kept.{key-length, key-sound}
 use Rattle.p5_utf8_write.proofs.Alphabet.{all-at}
 use Rattle.p7_line.specs.Line.{Typed, made, full, typed, typedLine, refusedLine, textLine}
-use Rattle.p7_line.proofs.Shown.{text-letters}
+use Rattle.p3_cells.proofs.InAlphabet.{text-letters}
 
 -- ---- one key, on a sound Vietnamese composition with 32 places lent
 module _ (c : Composition) (k : ℕ) (o : List ℕ) (s : isSound c ≡ true) (v : c .mode ≡ Vietnamese) (a : inAlphabet k ≡ true) (l : length o ≡ 32) where

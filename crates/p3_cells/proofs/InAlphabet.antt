@@ -14,13 +14,13 @@ use Rattle.p0_choice.proofs.Tables.{each-among}
 use Rattle.p1_letters.specs.Alphabet.{smallBy32, smallBy1, smallHigh, smallNext, isSmall, isAsciiCapital, isCapital, inAlphabet, allLetters, asciiLower, asciiUpper}
 use Rattle.p1_letters.specs.Tones.{toneRows, toneColumn, rowOf, toneFrom, toneOn}
 use Rattle.p1_letters.proofs.Alphabet.{every-letter, alphabet-ascii}
 use Rattle.p3_cells.specs.Cells.{isCell, tones}
 use Rattle.p3_cells.specs.Text.{letterOf, tonedLetter, shown, textOf}
 use Rattle.p3_cells.specs.Soundness.{SoundCell}
 use Rattle.p3_cells.specs.declared.Cell.{Cell}
 use Rattle.p3_cells.proofs.Soundness.{cell-is}
 use Rattle.p3_cells.proofs.Made.{letter-base}
-use Rattle.p3_cells.proofs.Tests.{both-are, are-both, holds}
+use Rattle.p0_choice.proofs.Tests.{both-are, are-both, holds}
 
 tone-stays : (x t : ℕ) → inAlphabet x ≡ true → among t tones ≡ true → inAlphabet (toneOn x t) ≡ true
 unfolding smallBy32 smallBy1 smallHigh smallNext isSmall isAsciiCapital isCapital inAlphabet asciiLower toneRows toneColumn rowOf toneFrom toneOn tones word
