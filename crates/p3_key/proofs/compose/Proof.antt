@@ -58,16 +58,30 @@ compose-spec =
     -- the letters
     (λ c. (search needs, search needs, search letters-none))
     (λ c. search needs) (λ c. search needs) (λ c κs. search needs) (λ c. search needs) (λ c. search needs) (λ c. search needs) (λ c. search needs)
-    (λ c. (
+    (λ c.
+    let loop = c .before .before .before in
+    let also = loop .before in
+    let put = also .before in
+    let edit = put .before .before .before .before in
+    let start = edit .before .before .before .before .before .before .before .before .before .before in (
       search needs,
       simp length-set (search needs),
-      letters-stored _ _ (c .before .before .before .before .before .before .before .before .before .before .before .before .before .before .before .before .before .before .before .args .t1 .cells) (c .before .before .before .before .before .before .before .before .before .edit-of .result .at) (c .before .before .before .before .before .before .before .before .before .edit-of .result .also) (c .before .before .before .before .before .put-cell .result) (c .before .before .before .before .also-cell .result)
-          (c .before .before .before .before .before .before .before .before .before .before .before .before .before .before .before .before .before .before .before .args .out .now) _ _ _ _ (long (c .before .before .before .before .before .before .before .before .before .before .before .before .before .before .before .before .before .before .before)) (c .before .before .before .loop3 .inv .2) (c .letter-for .ensures) (c .before .before .loop3-test .taken) (c .before .before .before .before .before .before .before .before .before .edit-of .ensures .3) (c .before .before .before .before .before .before .before .before .before .edit-of .ensures .4),
+      letters-stored _ _ (start .args .t1 .cells) (edit .edit-of .result .at) (edit .edit-of .result .also) (put .put-cell .result) (also .also-cell .result) (start .args .out .now) _ _ _ _ (long start) (loop .loop3 .inv .2)
+          (c .letter-for .ensures) (c .before .before .loop3-test .taken) (edit .edit-of .ensures .3) (edit .edit-of .ensures .4),
     ))
     (λ c. search needs)
+    -- the return
     (λ c.
-    owner-right _ _ _ _ _ _ _ _ _ _ _ _ _ _ _ _ _ (long (c .before .before .before .before .before .before .before .before .before .before .before .before .before .before .before .before .before))
-    (c .before .before .before .before .before .before .before .before .before .before .before .before .loop2 .inv .3) (c .before .before .before .before .before .before .before .before .before .before .before .loop2-test .left) (c .before .before .before .before .before .before .before .before .before .before .before .before .before .before .before .before .before .pre) (c .before .before .before .before .before .before .before .before .before .before .is-sound .ensures)
-    (c .before .before .before .before .before .before .before .before .before .before .before .before .before .before .before .at-most .ensures) (c .before .before .before .before .before .before .before .before .before .before .before .before .before .before .loop .inv .3) (c .before .before .before .before .before .before .before .before .before .before .before .before .before .before .loop .inv .0) (c .before .before .before .before .before .before .before .before .before .before .before .before .before .loop-test .left)
-    (search needs) (c .before .before .before .before .before .before .before .edit-of .ensures .0) (c .before .before .before .before .ascii-lower .ensures) (c .before .before .before .put-cell .ensures) (c .before .before .also-cell .ensures)
-    (c .before .loop3 .inv .2) (c .before .loop3 .inv .0) (c .loop3-test .left)))
+    let also = c .before .before in
+    let put = also .before in
+    let lower = put .before in
+    let edit = lower .before .before .before in
+    let sound = edit .before .before .before in
+    let past-left = sound .before in
+    let past = past-left .before in
+    let row-left = past .before in
+    let row = row-left .before in
+    let most = row .before in
+    let start = most .before .before in
+    owner-right _ _ _ _ _ _ _ _ _ _ _ _ _ _ _ _ _ (long start) (past .loop2 .inv .3) (past-left .loop2-test .left) (start .pre) (sound .is-sound .ensures) (most .at-most .ensures) (row .loop .inv .3) (row .loop .inv .0)
+    (row-left .loop-test .left) (search needs) (edit .edit-of .ensures .0) (lower .ascii-lower .ensures) (put .put-cell .ensures) (also .also-cell .ensures) (c .before .loop3 .inv .2) (c .before .loop3 .inv .0) (c .loop3-test .left)))

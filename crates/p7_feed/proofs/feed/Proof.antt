@@ -26,19 +26,24 @@ loop-holds c = (search needs, search needs, search needs, search needs, search n
 
 loop-again : tie.Need-loop-again Inv-loop μ-loop
 loop-again c =
-    let l = c .before .before .before .before .before .before .before .before .before .before .before .before .loop in
-    let part = c .before .before .before .before .before .before .before .before .before .before .before .before .before .before .before .before .args .part .now in
-    let h = c .before .before .before .before .before .before .before .before .before .before .before .loop-test .taken in
-    let q = c .before .before .before .before .before .before .before .before .before .if1 .taken in
-    let o = c .before .before .before .before .before .end-out in
+    let out = c .before .before .before .before .before in
+    let held = out .before .before in
+    let ends = held .before .before in
+    let turn = ends .before .before in
+    let loop = turn .before in
+    let start = loop .before .before .before .before in
+    let l = loop .loop in
+    let part = start .args .part .now in
+    let h = turn .loop-test .taken in
+    let q = ends .if1 .taken in
     let f = rw (c .before .first-bytes2 .ensures) at (c .end-phase .ensures) in
-    let e = rw (c .before .before .before .before .before .before .before .first-bytes .ensures) at (o .ensures .0) in
-    let w = rw (c .before .before .before .before .before .before .before .first-bytes .ensures) at (o .ensures .2) in (
+    let e = rw (held .first-bytes .ensures) at (out .end-out .ensures .0) in
+    let w = rw (held .first-bytes .ensures) at (out .end-out .ensures .2) in (
       search needs,
       search needs,
-      o .kept .1 .1 .0 ∙ l .inv .2,
+      out .end-out .kept .1 .1 .0 ∙ l .inv .2,
       search needs,
-      omega (arith, o .ensures .1),
+      omega (arith, out .end-out .ensures .1),
       to-end _ (take (l .len) (l .line)) (l .phase) part (l .i) h _ refl (l .inv .5) q _ f,
       out-end _ (take (l .len) (l .line)) (l .phase) part (l .i) h _ refl (l .inv .5) q _ f (l .out) _ (l .n) _ (omega arith) e w (l .inv .6),
       lay-end _ _ _ part (l .i) h _ refl (l .inv .7) q,

@@ -25,46 +25,58 @@ key-requires c κs = c .before .before .before .loop .inv .4 .sound
 
 returns : tie.Need-returns Inv-loop μ-loop
 returns c =
-    let l = c .before .before .before .before .before .before .before .before .before .before .before .before .loop in
-    let z = c .before .before .before .before .before .before .before .before .before .before .before .before .before .before .before .before in
-    let n = c .before .before .before .before .before .before .before .before .before .before .before .before .before .new in
-    let k = c .before .before .before .before .before .before .before .before .process-sound-key in
-    let p = c .before .before .put-refused in
-    let q = line-refused (z .args .m) (z .args .keys .now) (n .result) (n .ensures) (l .c) (l .text) (l .count) (l .i) (l .inv .4) (z .pre .0)
-    (c .before .before .before .before .before .before .before .before .before .before .before .loop-test .taken) (l .inv .1) _ refl (k .result) _ (k .ensures .0) (c .before .before .before .before .before .given .given .1) in
-    (rw q (p .ensures .0), p .ensures .1, rw (q, ← l .inv .3) (p .ensures .2))
+    let put = c .before .before in
+    let told = put .before .before .before in
+    let key = told .before .before .before in
+    let turn = key .before .before .before in
+    let loop = turn .before in
+    let new = loop .before in
+    let start = new .before .before .before in
+    let l = loop .loop in
+    let k = key .process-sound-key in
+    let q = line-refused (start .args .m) (start .args .keys .now) (new .new .result) (new .new .ensures) (l .c) (l .text) (l .count) (l .i) (l .inv .4) (start .pre .0) (turn .loop-test .taken) (l .inv .1)
+    _ refl (k .result) _ (k .ensures .0) (told .given .given .1) in
+    (rw q (put .put-refused .ensures .0), put .put-refused .ensures .1, rw (q, ← l .inv .3) (put .put-refused .ensures .2))
 
 loop-again : tie.Need-loop-again Inv-loop μ-loop
 loop-again c =
-    let l = c .before .before .before .before .before .before .before .before .before .loop in
-    let z = c .before .before .before .before .before .before .before .before .before .before .before .before .before in
-    let n = c .before .before .before .before .before .before .before .before .before .before .new in
-    let k = c .before .before .before .before .before .process-sound-key in (
+    let told = c .before .before in
+    let key = told .before .before .before in
+    let turn = key .before .before .before in
+    let loop = turn .before in
+    let new = loop .before in
+    let start = new .before .before .before in
+    let l = loop .loop in
+    let k = key .process-sound-key in (
       search needs,
       search needs,
       l .inv .2,
       l .inv .3,
-      typing-on (n .result .method) (z .args .keys .now) (l .c) (l .text) (l .count) (l .i) (l .inv .4) (z .pre .0) (c .before .before .before .before .before .before .before .before .loop-test .taken) (l .inv .1)
-          _ refl (k .result) _ _ (k .ensures .0) (c .before .before .given2 .given .1) (k .ensures .1),
+      typing-on (new .new .result .method) (start .args .keys .now) (l .c) (l .text) (l .count) (l .i) (l .inv .4) (start .pre .0) (turn .loop-test .taken) (l .inv .1)
+          _ refl (k .result) _ _ (k .ensures .0) (told .given2 .given .1) (k .ensures .1),
     )
 
 text-requires : tie.Need-text-line-requires Inv-loop μ-loop
 text-requires c κs =
-    let l = c .before .before .before .before .loop in
-    let z = c .before .before .before .before .before .before .before .before in
-    let n = c .before .before .before .before .before .new in
-    let f = text-fits (z .args .m) (z .args .keys .now) (n .result) (n .ensures) (l .c) (l .text) (l .count) (l .i) (l .inv .4) in
+    let loop = c .before .before .before .before in
+    let new = loop .before in
+    let start = new .before .before .before in
+    let l = loop .loop in
+    let f = text-fits (start .args .m) (start .args .keys .now) (new .new .result) (new .new .ensures) (l .c) (l .text) (l .count) (l .i) (l .inv .4) in
     (rw (c .before .first .ensures) (f .0), rw (c .before .first .ensures) (f .1), search needs)
 
 returns-2 : tie.Need-returns-2 Inv-loop μ-loop
 returns-2 c =
-    let l = c .before .before .before .before .before .before .before .loop in
-    let z = c .before .before .before .before .before .before .before .before .before .before .before in
-    let n = c .before .before .before .before .before .before .before .before .new in
-    let f = c .before .before .before .before .first in
-    let t = c .before .before .text-line in
-    let q = line-typed (z .args .m) (z .args .keys .now) (n .result) (n .ensures) (l .c) (l .text) (l .count) (l .i) (l .inv .4) (c .before .before .before .before .before .before .loop-test .left) in
-    (rw (q, ← f .ensures) (t .ensures .0), t .ensures .1, rw (q, ← f .ensures, ← l .inv .3) (t .ensures .2))
+    let line = c .before .before in
+    let first = line .before .before in
+    let turn = first .before .before in
+    let loop = turn .before in
+    let new = loop .before in
+    let start = new .before .before .before in
+    let l = loop .loop in
+    let t = line .text-line in
+    let q = line-typed (start .args .m) (start .args .keys .now) (new .new .result) (new .new .ensures) (l .c) (l .text) (l .count) (l .i) (l .inv .4) (turn .loop-test .left) in
+    (rw (q, ← first .first .ensures) (t .ensures .0), t .ensures .1, rw (q, ← first .first .ensures, ← l .inv .3) (t .ensures .2))
 
 pub keys-line-spec : {M : Type 1} → statement M
 keys-line-spec =
