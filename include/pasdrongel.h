@@ -28,6 +28,11 @@ extern "C" {
 #define PASDRONGEL_VERSION \
     (PASDRONGEL_VERSION_MAJOR * 1000000 + PASDRONGEL_VERSION_MINOR * 1000 + PASDRONGEL_VERSION_PATCH)
 
+/* What a call answers. The low byte of an answer is the refusal, or 0, and a host reads it there, by this macro. The bytes
+ * above it are 0 in this version. They are kept for what a later one says besides, as where the foreign letter stands: a
+ * host that compares whole answers would then take a refusal that it knows for another. */
+#define PASDRONGEL_REFUSAL(answer) ((answer) & 0xffu)
+
 /* The call is done. */
 #define PASDRONGEL_DONE 0
 
@@ -89,9 +94,10 @@ extern "C" {
 /* The version of the library that is linked: PASDRONGEL_VERSION of the header that it was built with. */
 uint32_t pasdrongel_version(void);
 
-/* A text for what a call returns, in English, in ASCII and on one line. A number that is none of the refusals has a text
- * too. It is never NULL, and stays as it is for as long as the program runs. */
-const char *pasdrongel_refusal_text(uint32_t refusal);
+/* A text for what a call returned, the whole of it: in English, in ASCII, on one line and of at most 63 letters. Only the low
+ * byte decides. A number that is no refusal has a text too. It is never NULL, and stays as it is for as long as the program
+ * runs. */
+const char *pasdrongel_refusal_text(uint32_t answer);
 
 /* Letters. */
 
@@ -169,10 +175,16 @@ uint32_t pasdrongel_literal(uint8_t *state, size_t size, uint32_t letter);
  * `room` is less than the letters. */
 uint32_t pasdrongel_remove_last(uint8_t *state, size_t size, uint32_t *text, size_t room, size_t *count);
 
-/* Undoes the last step of Telex that the key `trigger` made, `raw` being the keys that were typed, `length` of them.
- * `*behaviour` is PASDRONGEL_APPEND if the host is to append the trigger as a letter, PASDRONGEL_CONSUME if not. Refuses by 6
- * if `length` is over PASDRONGEL_WORD_LETTERS, by 1 if `trigger` or one of `raw` is no letter, by 5 if there is nothing to
- * undo, which is always so under VNI. */
+/* Takes back a tone or a mark of Telex, because its key is pressed again. `trigger` is that key, and `raw` the keys of the
+ * word that were taken before it, `length` of them: the trigger is not among them. A tone goes if `raw` ends in the trigger
+ * (as, then s). A mark goes if the two keys that make it stand in `raw` with none of a e i o u y after them (dd, then d; aan,
+ * then a). `*behaviour` is PASDRONGEL_APPEND if the host is to append the trigger, by pasdrongel_literal and not by
+ * pasdrongel_key, which would put the tone back; it is PASDRONGEL_CONSUME if the trigger does no more. Either way the trigger
+ * is from then on one of the keys of the word.
+ *
+ * A host asks in Vietnamese mode at each key, before pasdrongel_key, and takes it as a key where this refuses by 5;
+ * examples/panel.c does. The mode is not asked here. Refuses by 6 if `length` is over PASDRONGEL_WORD_LETTERS, by 1 if
+ * `trigger` or one of `raw` is no letter, by 5 if there is nothing to undo, which is always so under VNI. */
 uint32_t pasdrongel_undo(
     uint8_t *state, size_t size, uint32_t trigger, const uint32_t *raw, size_t length, uint32_t *behaviour);
 

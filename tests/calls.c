@@ -76,9 +76,11 @@ static uint32_t *told_yes(void)
 /* What a call that is done may have written. */
 enum writes { NOTHING = 0, THE_STATE = 1, THE_LETTERS = 2, THE_BYTES = 4, THE_NUMBER = 8, A_COUNT = 16, TWO_PLACES = 32 };
 
-static uint32_t end_of_call(uint32_t refusal, int writes)
+static uint32_t end_of_call(uint32_t answer, int writes)
 {
     size_t i, unit = writes & THE_LETTERS ? sizeof *letters : writes & THE_BYTES ? sizeof *bytes : 0;
+    uint32_t refusal = PASDRONGEL_REFUSAL(answer);
+    FACT(refusal == answer); /* nothing stands above the refusal in this version */
     if (refusal != PASDRONGEL_DONE) {
         for (i = 0; i < EVERYTHING; i++)
             FACT(kept(everything[i], 0));
@@ -666,6 +668,22 @@ static void undo_facts(void)
     fresh(PASDRONGEL_TELEX);
     FACT(undo('s', "") == PASDRONGEL_REFUSED_NO_UNDO && shows(""));
 
+    /* as a host does it: raw is the keys before the trigger. The tone key must be the last of them, so that the trigger in raw
+     * would take back too much */
+    FACT(types(PASDRONGEL_TELEX, "a", "a") && undo('s', "a") == PASDRONGEL_REFUSED_NO_UNDO);
+    FACT(types(PASDRONGEL_TELEX, "asb", "áb") && undo('s', "asb") == PASDRONGEL_REFUSED_NO_UNDO && shows("áb"));
+    FACT(types(PASDRONGEL_TELEX, "asb", "áb") && undo('s', "asbs") == PASDRONGEL_DONE && shows("ab"));
+    /* the trigger is appended by the literal; by the key the tone comes back */
+    FACT(types(PASDRONGEL_TELEX, "as", "á") && undo('s', "as") == PASDRONGEL_DONE && number == PASDRONGEL_APPEND);
+    FACT(literal('s') == PASDRONGEL_DONE && shows("as"));
+    FACT(types(PASDRONGEL_TELEX, "as", "á") && undo('s', "as") == PASDRONGEL_DONE && number == PASDRONGEL_APPEND);
+    type("s");
+    FACT(wrote("á"));
+    /* the mode is not asked: in English mode a host does not call it */
+    FACT(types(PASDRONGEL_TELEX, "as", "á"));
+    state[1] = PASDRONGEL_ENGLISH;
+    FACT(undo('s', "as") == PASDRONGEL_DONE && shows("a"));
+
     /* the ladder: 10, 6, 1 (trigger, then raw string), 5 */
     for (i = 0; i < sizeof raw / sizeof *raw; i++)
         raw[i] = 'b';
@@ -822,11 +840,13 @@ static void library_facts(void)
     FACT(PASDRONGEL_VERSION_MINOR < 1000 && PASDRONGEL_VERSION_PATCH < 1000);
     for (i = 0; i <= PASDRONGEL_REFUSED_UNSOUND + 1; i++) {
         const char *text = pasdrongel_refusal_text(i), *at;
-        FACT(text != NULL && *text != '\0');
+        FACT(text != NULL && *text != '\0' && strlen(text) <= 63);
         for (at = text; *at != '\0'; at++)
             FACT(*at >= ' ' && *at <= '~');
         for (j = 0; j < i; j++)
             FACT(strcmp(text, pasdrongel_refusal_text(j)) != 0);
+        FACT(PASDRONGEL_REFUSAL(0x700u + i) == i && PASDRONGEL_REFUSAL(0xffffff00u | i) == i);
+        FACT(pasdrongel_refusal_text(0x700u + i) == text && pasdrongel_refusal_text(0xffffff00u | i) == text);
     }
     FACT(pasdrongel_refusal_text(0xffffffff) == pasdrongel_refusal_text(PASDRONGEL_REFUSED_UNSOUND + 1));
 }

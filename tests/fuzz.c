@@ -168,7 +168,7 @@ static void fault(const struct kind *kind, const char *what)
 
 static int is_letter(uint32_t x)
 {
-    return pasdrongel_check_letter(x) == PASDRONGEL_DONE;
+    return PASDRONGEL_REFUSAL(pasdrongel_check_letter(x)) == PASDRONGEL_DONE;
 }
 
 static int is_cell(const uint8_t *cell)
@@ -226,7 +226,7 @@ static void make_call(const struct kind *kind, const struct given *g, enum end e
     p.first = lend(&the_first, before, kind->first, end, guard);
     p.second = lend(&the_second, before, kind->second, end, guard);
     calls++;
-    left->refusal = kind->call(g, &p);
+    left->refusal = PASDRONGEL_REFUSAL(kind->call(g, &p));
     left->count = 0;
     if (left->refusal == PASDRONGEL_DONE && kind->output != 0)
         memcpy(&left->count, p.first, sizeof left->count);
@@ -511,8 +511,8 @@ static void hold_text(const struct kind *kind, const struct given *g, const stru
     if (left->refusal != PASDRONGEL_DONE || kind->output != 4 || kind->use == NO_STATE || (kind->numbers == KEY && left->state[1] == 1))
         return;
     calls++;
-    if (pasdrongel_text(left->state, g->state_size, text, 32, &count) != PASDRONGEL_DONE || count != left->count
-        || memcmp(text, left->output, count * sizeof *text) != 0)
+    if (PASDRONGEL_REFUSAL(pasdrongel_text(left->state, g->state_size, text, 32, &count)) != PASDRONGEL_DONE
+        || count != left->count || memcmp(text, left->output, count * sizeof *text) != 0)
         fault(kind, "it does not write the text of what it leaves");
 }
 
@@ -523,7 +523,7 @@ static void session(void)
     unsigned length = 1 + below(120);
     typed_length = 0;
     calls++;
-    if (pasdrongel_new(composition, STATE, below(2)) != PASDRONGEL_DONE)
+    if (PASDRONGEL_REFUSAL(pasdrongel_new(composition, STATE, below(2))) != PASDRONGEL_DONE)
         fault(&kinds[11], "there is no new composition");
     while (length-- > 0) {
         const struct kind *kind = some_kind();

@@ -215,7 +215,7 @@ static int replay_read(const struct list *input, size_t room, const struct answe
     for (i = 0; i < input->length; i++)
         bytes[i] = (uint8_t)input->items[i];
     lend_output();
-    refusal = pasdrongel_read_utf8(bytes, input->length, output + MARGIN, room, &count);
+    refusal = PASDRONGEL_REFUSAL(pasdrongel_read_utf8(bytes, input->length, output + MARGIN, room, &count));
     return refusal == answer->refusal && count == count_after(answer) && output_has(&answer->list);
 }
 
@@ -226,7 +226,7 @@ static int replay_write(const struct list *input, size_t room, const struct answ
     uint32_t refusal;
     count = GUARD;
     memset(bytes, GUARD_BYTE, sizeof bytes);
-    refusal = pasdrongel_write_utf8(input->items, input->length, bytes + MARGIN, room, &count);
+    refusal = PASDRONGEL_REFUSAL(pasdrongel_write_utf8(input->items, input->length, bytes + MARGIN, room, &count));
     for (i = 0; i < room + 2 * MARGIN; i++)
         if (bytes[i] != (i >= MARGIN && i - MARGIN < answer->list.length ? answer->list.items[i - MARGIN] : GUARD_BYTE))
             return 0;
@@ -252,7 +252,7 @@ static int replay_cut(void)
     const char *answer;
     expect("[");
     read_bracketed(&word);
-    refusal = pasdrongel_cut(word.items, word.length, &onset, &vowels);
+    refusal = PASDRONGEL_REFUSAL(pasdrongel_cut(word.items, word.length, &onset, &vowels));
     expect("=");
     answer = next_word();
     if (strcmp(answer, "refused") == 0)
@@ -267,7 +267,7 @@ static int replay_verdict(void)
     uint32_t yes = GUARD, refusal;
     expect("[");
     read_bracketed(&word);
-    refusal = pasdrongel_verdict(word.items, word.length, &yes);
+    refusal = PASDRONGEL_REFUSAL(pasdrongel_verdict(word.items, word.length, &yes));
     expect("=");
     read_answer(&answer);
     return refusal == answer.refusal && yes == number_after(&answer);
@@ -284,18 +284,18 @@ static int replay_method(void)
     expect("=");
     read_answer(&answer);
     if (letters.length == 2)
-        refusal = pasdrongel_mark_for(method, letters.items[0], letters.items[1], &out);
+        refusal = PASDRONGEL_REFUSAL(pasdrongel_mark_for(method, letters.items[0], letters.items[1], &out));
     else if (called[3] == 't')
-        refusal = pasdrongel_is_tone_key(method, letters.items[0], &out);
+        refusal = PASDRONGEL_REFUSAL(pasdrongel_is_tone_key(method, letters.items[0], &out));
     else
-        refusal = pasdrongel_is_horn_key(method, letters.items[0], &out);
+        refusal = PASDRONGEL_REFUSAL(pasdrongel_is_horn_key(method, letters.items[0], &out));
     return refusal == answer.refusal && out == number_after(&answer);
 }
 
 static int replay_total(void)
 {
     size_t total = GUARD;
-    uint32_t refusal = pasdrongel_total(&total);
+    uint32_t refusal = PASDRONGEL_REFUSAL(pasdrongel_total(&total));
     expect("=");
     return refusal == 0 && total == read_number();
 }
@@ -315,7 +315,7 @@ static int replay_word(void)
     expect("room");
     room = read_number();
     lend_output();
-    return letters_answered(pasdrongel_word(number, output + MARGIN, room, &count));
+    return letters_answered(PASDRONGEL_REFUSAL(pasdrongel_word(number, output + MARGIN, room, &count)));
 }
 
 /* `next_word room 8 : [ az ] = [ b ]` */
@@ -326,7 +326,8 @@ static int replay_next_word(void)
     expect("[");
     read_bracketed(&word);
     lend_output();
-    return letters_answered(pasdrongel_next_word(word.items, word.length, output + MARGIN, room, &count));
+    return letters_answered(
+        PASDRONGEL_REFUSAL(pasdrongel_next_word(word.items, word.length, output + MARGIN, room, &count)));
 }
 
 /* A session: the bytes of its composition, with guarded ones around, and what the last call left. */
@@ -404,8 +405,8 @@ static void press(const struct list *keys)
     size_t i;
     for (i = 0; i < keys->length; i++) {
         lend();
-        session.refusal = pasdrongel_key(
-            session.bytes + MARGIN, session.length, keys->items[i], output + MARGIN, session.room, &count);
+        session.refusal = PASDRONGEL_REFUSAL(pasdrongel_key(
+            session.bytes + MARGIN, session.length, keys->items[i], output + MARGIN, session.room, &count));
     }
 }
 
@@ -480,7 +481,7 @@ static void session_step(const char *word)
         memset(state + length, GUARD_BYTE, MOST + MARGIN - length);
         session.length = length;
     } else {
-        session.refusal = session_call(word);
+        session.refusal = PASDRONGEL_REFUSAL(session_call(word));
     }
 }
 
@@ -551,12 +552,14 @@ static int replay(char *line)
     read_list(&input, "=");
     read_answer(&answer);
     if (strcmp(name, "check_letter") == 0 && input.length == 1)
-        return pasdrongel_check_letter(input.items[0]) == answer.refusal;
+        return PASDRONGEL_REFUSAL(pasdrongel_check_letter(input.items[0])) == answer.refusal;
     if (strcmp(name, "tone_on") == 0 && input.length == 2)
-        return pasdrongel_tone_on(input.items[0], input.items[1], &out) == answer.refusal && out == number_after(&answer);
+        return PASDRONGEL_REFUSAL(pasdrongel_tone_on(input.items[0], input.items[1], &out)) == answer.refusal
+            && out == number_after(&answer);
     for (i = 0; i < sizeof one_letter_calls / sizeof *one_letter_calls; i++)
         if (strcmp(name, one_letter_calls[i].name) == 0 && input.length == 1)
-            return one_letter_calls[i].call(input.items[0], &out) == answer.refusal && out == number_after(&answer);
+            return PASDRONGEL_REFUSAL(one_letter_calls[i].call(input.items[0], &out)) == answer.refusal
+                && out == number_after(&answer);
     bad_line("this call is not known");
     return 0;
 }
