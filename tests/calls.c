@@ -564,6 +564,8 @@ static void key_facts(void)
     fresh(PASDRONGEL_TELEX);
     for (i = 0; i < 32; i++)
         FACT(key('b', PASDRONGEL_TEXT_ROOM) == PASDRONGEL_DONE && count == i + 1);
+    FACT(text(PASDRONGEL_TEXT_ROOM) == PASDRONGEL_DONE && count == PASDRONGEL_TEXT_ROOM); /* the room that always suffices */
+    FACT(text(PASDRONGEL_TEXT_ROOM - 1) == PASDRONGEL_REFUSED_SHORT);
     state[0] = 2;
     FACT(key(FOREIGN, 0) == PASDRONGEL_REFUSED_UNSOUND);
     state[0] = PASDRONGEL_TELEX;
@@ -831,6 +833,45 @@ static void list_facts(void)
     FACT(next_letters(word, length, PASDRONGEL_LISTED_ROOM) == PASDRONGEL_REFUSED_NO_WORD);
 }
 
+/* ---- NULL, which an empty buffer may be: each buffer of each call */
+
+#define TRIED(call, writes) (begin(), end_of_call(call, writes))
+
+static void null_facts(void)
+{
+    uint32_t a = 'a';
+    uint8_t byte = 'a';
+    FACT(types(PASDRONGEL_TELEX, "as", "á"));
+    FACT(TRIED(pasdrongel_new(NULL, 0, PASDRONGEL_TELEX), NOTHING) == PASDRONGEL_REFUSED_UNSOUND);
+    FACT(TRIED(pasdrongel_composition_ok(NULL, 0), NOTHING) == PASDRONGEL_REFUSED_UNSOUND);
+    FACT(TRIED(pasdrongel_key(NULL, 0, 'a', room_for(9), 9, counted()), NOTHING) == PASDRONGEL_REFUSED_UNSOUND);
+    FACT(TRIED(pasdrongel_key(given(), STATE, 'b', NULL, 0, counted()), NOTHING) == PASDRONGEL_REFUSED_SHORT);
+    FACT(TRIED(pasdrongel_text(NULL, 0, room_for(9), 9, counted()), NOTHING) == PASDRONGEL_REFUSED_UNSOUND);
+    FACT(TRIED(pasdrongel_text(given(), STATE, NULL, 0, counted()), NOTHING) == PASDRONGEL_REFUSED_SHORT);
+    FACT(TRIED(pasdrongel_literal(NULL, 0, 'a'), NOTHING) == PASDRONGEL_REFUSED_UNSOUND);
+    FACT(TRIED(pasdrongel_undo(NULL, 0, 's', NULL, 0, told_yes()), NOTHING) == PASDRONGEL_REFUSED_UNSOUND);
+    FACT(TRIED(pasdrongel_undo(given(), STATE, 's', NULL, 0, told_yes()), NOTHING) == PASDRONGEL_REFUSED_NO_UNDO);
+    FACT(TRIED(pasdrongel_reset(NULL, 0), NOTHING) == PASDRONGEL_REFUSED_UNSOUND);
+    FACT(TRIED(pasdrongel_set_method(NULL, 0, PASDRONGEL_VNI), NOTHING) == PASDRONGEL_REFUSED_UNSOUND);
+    FACT(TRIED(pasdrongel_set_mode(NULL, 0, PASDRONGEL_ENGLISH), NOTHING) == PASDRONGEL_REFUSED_UNSOUND);
+    FACT(TRIED(pasdrongel_remove_last(NULL, 0, NULL, 0, counted()), NOTHING) == PASDRONGEL_REFUSED_UNSOUND);
+    FACT(TRIED(pasdrongel_remove_last(given(), STATE, NULL, 0, counted()), THE_STATE | A_COUNT) == PASDRONGEL_DONE && count == 0);
+    FACT(TRIED(pasdrongel_text(given(), STATE, NULL, 0, counted()), A_COUNT) == PASDRONGEL_DONE && count == 0);
+    FACT(TRIED(pasdrongel_cut(NULL, 0, counted(), lent(&the_second, NULL, sizeof(size_t))), TWO_PLACES) == PASDRONGEL_DONE);
+    FACT(count == 0 && place == 0);
+    FACT(TRIED(pasdrongel_verdict(NULL, 0, told_yes()), THE_NUMBER) == PASDRONGEL_DONE && number == 0);
+    FACT(TRIED(pasdrongel_word(0, NULL, 0, counted()), NOTHING) == PASDRONGEL_REFUSED_SHORT);
+    FACT(TRIED(pasdrongel_next_word(NULL, 0, room_for(9), 9, counted()), THE_LETTERS) == PASDRONGEL_DONE && wrote("a"));
+    FACT(TRIED(pasdrongel_next_word(&a, 1, NULL, 0, counted()), NOTHING) == PASDRONGEL_REFUSED_SHORT);
+    FACT(TRIED(pasdrongel_next_word(NULL, 0, NULL, 0, counted()), NOTHING) == PASDRONGEL_REFUSED_SHORT);
+    FACT(TRIED(pasdrongel_read_utf8(NULL, 0, room_for(9), 9, counted()), THE_LETTERS) == PASDRONGEL_DONE && count == 0);
+    FACT(TRIED(pasdrongel_read_utf8(NULL, 0, NULL, 0, counted()), A_COUNT) == PASDRONGEL_DONE && count == 0);
+    FACT(TRIED(pasdrongel_read_utf8(&byte, 1, NULL, 0, counted()), NOTHING) == PASDRONGEL_REFUSED_SHORT);
+    FACT(TRIED(pasdrongel_write_utf8(NULL, 0, lent(&the_output, NULL, 9), 9, counted()), THE_BYTES) == PASDRONGEL_DONE && count == 0);
+    FACT(TRIED(pasdrongel_write_utf8(NULL, 0, NULL, 0, counted()), A_COUNT) == PASDRONGEL_DONE && count == 0);
+    FACT(TRIED(pasdrongel_write_utf8(&a, 1, NULL, 0, counted()), NOTHING) == PASDRONGEL_REFUSED_SHORT);
+}
+
 /* ---- the library */
 
 static void library_facts(void)
@@ -867,6 +908,7 @@ int main(void)
     method_facts();
     speller_facts();
     list_facts();
+    null_facts();
     printf("%lu facts about %lu calls, %lu do not hold\n", facts, calls, failures);
     return failures != 0;
 }

@@ -62,6 +62,8 @@ uint32_t __wrap_pasdrongel_text(const uint8_t *state, size_t size, uint32_t *out
         return PASDRONGEL_REFUSED_SHORT; /* goes by what stood in the output */
     if (fault(10) && room == 0)
         return PASDRONGEL_REFUSED_SHORT; /* there may be nothing to write */
+    if (fault(15) && out == NULL)
+        return PASDRONGEL_REFUSED_SHORT; /* asks where an empty output stands */
     return __real_pasdrongel_text(state, size, out, room, count);
 }
 

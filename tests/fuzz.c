@@ -8,9 +8,13 @@
  * - After a refusal nothing has changed. After an answer: the answer alone, at the start of the output.
  * - What was a sound composition is one after the call, by a test of the bytes that is written here.
  * - The same call on other memory, with other content in its outputs, does the same.
+ * - It makes no difference whether an empty buffer is NULL.
  * - A refusal by 3 is one for want of room: with enough of it the answer is longer than the room was. And an answer with
  *   room to spare is refused by 3 where the room is one less than the answer.
- * At the end every refusal of every call must have been met, so that the run says something of each. */
+ * At the end every refusal of every call must have been met, and each of its buffers as NULL, so that the run says something
+ * of each.
+ *
+ * With PAINTED it also makes each call on a painted stack, and says how much of it the deepest has touched. */
 #include "lent.h"
 #include "pasdrongel.h"
 
@@ -156,7 +160,10 @@ static const struct kind {
 #define KINDS (sizeof kinds / sizeof *kinds)
 #define REFUSALS 11
 
-static unsigned long met[KINDS][REFUSALS], calls, faults;
+/* The buffers of a call, in the order of `struct places`. */
+enum buffers { STATE_BUFFER, INPUT_BUFFER, OUTPUT_BUFFER, BUFFERS };
+
+static unsigned long met[KINDS][REFUSALS], nulls[KINDS][BUFFERS], calls, faults;
 
 static void fault(const struct kind *kind, const char *what)
 {
@@ -208,6 +215,69 @@ struct left {
     uint8_t output[4 * MOST_ROOM], first[8], second[8];
 };
 
+#ifdef PAINTED
+#include "painted.h"
+
+static const struct kind *ran;
+static const struct given *ran_with;
+static const struct places *ran_on;
+static uint32_t ran_to;
+static size_t deepest[KINDS], nothing;
+
+static void run(void)
+{
+    ran_to = ran->call(ran_with, ran_on);
+}
+
+static uint32_t call_nothing(const struct given *g, const struct places *p)
+{
+    (void)g, (void)p;
+    return PASDRONGEL_DONE;
+}
+
+/* What a call takes is what it touches more than an empty one, which has touched its return address. */
+static uint32_t made(const struct kind *kind, const struct given *g, const struct places *p)
+{
+    static const struct kind empty = {"nothing", call_nothing, 0, NO_STATE, NO_NUMBER, 0, 0, 0, 0, 0};
+    size_t touched;
+    ran_with = g, ran_on = p;
+    if (nothing == 0)
+        ran = &empty, nothing = touched_by(run) - sizeof(void *);
+    ran = kind;
+    touched = touched_by(run) - nothing;
+    if (touched > deepest[kind - kinds])
+        deepest[kind - kinds] = touched;
+    return ran_to;
+}
+
+static void say_stack(void)
+{
+    size_t i;
+    for (i = 0; i < KINDS; i++)
+        printf("stack %s %lu\n", kinds[i].name, (unsigned long)deepest[i]);
+}
+#else
+static uint32_t made(const struct kind *kind, const struct given *g, const struct places *p)
+{
+    return kind->call(g, p);
+}
+
+static void say_stack(void)
+{
+}
+#endif
+
+/* Lends a buffer; at the low end an empty one is NULL. */
+static void *lend_buffer(const struct kind *kind, enum buffers which, struct lent *lent, const void *content, size_t size,
+                         enum end end, unsigned char guard)
+{
+    void *at = lend(lent, content, size, end, guard);
+    if (size > 0 || end == HIGH)
+        return at;
+    nulls[kind - kinds][which]++;
+    return NULL;
+}
+
 static void make_call(const struct kind *kind, const struct given *g, enum end end, unsigned char guard, struct left *left)
 {
     uint8_t narrow[MOST_INPUT], before[4 * MOST_ROOM];
@@ -217,16 +287,17 @@ static void make_call(const struct kind *kind, const struct given *g, enum end e
         narrow[i] = (uint8_t)g->input[i];
     for (i = 0; i < sizeof before; i++)
         before[i] = (uint8_t)random_word();
-    p.state = lend(&the_state, g->state, kind->use == NO_STATE ? 0 : g->state_size, end, guard);
+    p.state = lend_buffer(kind, STATE_BUFFER, &the_state, g->state, kind->use == NO_STATE ? 0 : g->state_size, end, guard);
     p.state_size = the_state.size;
-    p.input = lend(&the_input, kind->input == 1 ? (const void *)narrow : g->input, kind->input * g->length, end, guard);
+    p.input = lend_buffer(kind, INPUT_BUFFER, &the_input, kind->input == 1 ? (const void *)narrow : g->input,
+                          kind->input * g->length, end, guard);
     p.length = g->length;
-    p.output = lend(&the_output, before, kind->output * g->room, end, guard);
+    p.output = lend_buffer(kind, OUTPUT_BUFFER, &the_output, before, kind->output * g->room, end, guard);
     p.room = g->room;
     p.first = lend(&the_first, before, kind->first, end, guard);
     p.second = lend(&the_second, before, kind->second, end, guard);
     calls++;
-    left->refusal = PASDRONGEL_REFUSAL(kind->call(g, &p));
+    left->refusal = PASDRONGEL_REFUSAL(made(kind, g, &p));
     left->count = 0;
     if (left->refusal == PASDRONGEL_DONE && kind->output != 0)
         memcpy(&left->count, p.first, sizeof left->count);
@@ -234,8 +305,8 @@ static void make_call(const struct kind *kind, const struct given *g, enum end e
         fault(kind, "it counts more than there is room for");
         left->count = 0;
     }
-    memcpy(left->state, p.state, the_state.size);
-    memcpy(left->output, p.output, left->count * kind->output);
+    memcpy(left->state, the_state.at, the_state.size);
+    memcpy(left->output, the_output.at, left->count * kind->output);
     memset(left->first, 0, sizeof left->first);
     memset(left->second, 0, sizeof left->second);
     if (left->refusal == PASDRONGEL_DONE) {
@@ -430,7 +501,9 @@ static void some_state(struct given *g, uint32_t rarity)
     memset(g->state, 0, sizeof g->state);
     memcpy(g->state, composition, STATE);
     g->state_size = STATE;
-    if (one_in(3 * rarity))
+    if (one_in(24))
+        g->state_size = 0;
+    else if (one_in(3 * rarity))
         g->state_size = one_in(2) ? STATE - 1 + 2 * below(2) : below(MOST_STATE + 1);
     if (one_in(rarity))
         g->state[one_in(3) ? below(3) : below(one_in(4) ? STATE : in_use)] =
@@ -558,6 +631,9 @@ static void count_refusals(void)
             else if (r == 0 || kinds[i].refusals & R(r))
                 fault(&kinds[i], "the run has not met every answer that it has");
         }
+        if ((kinds[i].use != NO_STATE && nulls[i][STATE_BUFFER] == 0) || (kinds[i].input != 0 && nulls[i][INPUT_BUFFER] == 0)
+            || (kinds[i].output != 0 && nulls[i][OUTPUT_BUFFER] == 0))
+            fault(&kinds[i], "the run has not met NULL for each of its buffers");
         printf("\n");
     }
 }
@@ -574,6 +650,7 @@ int main(void)
     while (sessions-- > 0 && faults < MOST_SHOWN)
         session();
     count_refusals();
+    say_stack();
     printf("seed %lu\n%lu calls, %lu faults\n", seed, calls, faults);
     return faults != 0;
 }
