@@ -22,7 +22,7 @@ extern "C" {
 
 /* The version of this header, and its three parts in one number. */
 #define PASDRONGEL_VERSION_MAJOR 0
-#define PASDRONGEL_VERSION_MINOR 1
+#define PASDRONGEL_VERSION_MINOR 2
 #define PASDRONGEL_VERSION_PATCH 0
 #define PASDRONGEL_VERSION \
     (PASDRONGEL_VERSION_MAJOR * 1000000 + PASDRONGEL_VERSION_MINOR * 1000 + PASDRONGEL_VERSION_PATCH)
@@ -103,10 +103,14 @@ extern "C" {
 #define PASDRONGEL_APPEND 0
 #define PASDRONGEL_CONSUME 1
 
-/* The library. These two return what they find, and refuse nothing. */
+/* The library. These three return what they find, and refuse nothing. */
 
 /* The version of the library that is linked: PASDRONGEL_VERSION of the header that it was built with. */
 uint32_t pasdrongel_version(void);
+
+/* The bytes of a composition in the library that is linked: PASDRONGEL_COMPOSITION_BYTES of the header that it was built
+ * with. */
+size_t pasdrongel_composition_bytes(void);
 
 /* A text for a whole answer, of which the low byte decides: in English, in ASCII, on one line and of at most 63 letters. A
  * number that is no refusal has a text too. It is never NULL, and stays as it is for as long as the program runs. */
@@ -128,6 +132,9 @@ uint32_t pasdrongel_is_capital(uint32_t letter, uint32_t *yes);
 
 /* `*yes` is 1 for U+0009 to U+000D and U+0020, else 0. Refuses by 1 what is no letter. */
 uint32_t pasdrongel_is_white_space(uint32_t letter, uint32_t *yes);
+
+/* `*yes` is 1 for white space and for . , ! ? ; : which end a syllable; else 0. Refuses by 1 what is no letter. */
+uint32_t pasdrongel_is_separator(uint32_t letter, uint32_t *yes);
 
 /* The letter with a tone. The tone keys are s 1 (acute), f 2 (grave), r 3 (hook), x 4 (tilde), j 5 (dot below).
  * An ASCII capital vowel gives the small toned letter. A letter that is no composer vowel stays as it is, and so does
@@ -169,7 +176,17 @@ uint32_t pasdrongel_mark_for(uint32_t method, uint32_t base, uint32_t key, uint3
 uint32_t pasdrongel_new(uint8_t *state, size_t size, uint32_t method);
 
 /* Are these the bytes of a sound composition? 0 if they are, 10 if they are not. */
-uint32_t pasdrongel_composition_ok(const uint8_t *state, size_t size);
+uint32_t pasdrongel_check_composition(const uint8_t *state, size_t size);
+
+/* The input method: `*method` is PASDRONGEL_TELEX or PASDRONGEL_VNI. `state` and `method` lie apart. */
+uint32_t pasdrongel_method(const uint8_t *state, size_t size, uint32_t *method);
+
+/* The mode: `*mode` is PASDRONGEL_VIETNAMESE or PASDRONGEL_ENGLISH. `state` and `mode` lie apart. */
+uint32_t pasdrongel_mode(const uint8_t *state, size_t size, uint32_t *mode);
+
+/* How many cells are in use, from 0 to PASDRONGEL_CELLS, to `*count`. The text has as many letters. `state` and `count` lie
+ * apart. */
+uint32_t pasdrongel_count(const uint8_t *state, size_t size, size_t *count);
 
 /* Takes a key of the input method, and writes the text that stands then, as pasdrongel_text; in English mode the key changes
  * nothing, and that one letter is written. Refuses by 1 if `key` is no letter, by 2 if a letter must be appended and all

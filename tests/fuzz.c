@@ -6,7 +6,8 @@
  * - It returns 0 or one of its own refusals, and by 10 exactly where the bytes are no sound composition.
  * - Nothing outside of what it is lent is read or written (lent.h), and nothing that is lent to be read is written.
  * - After a refusal nothing has changed. After an answer: the answer alone, at the start of the output.
- * - What was a sound composition is one after the call, by a test of the bytes that is written here.
+ * - What was a sound composition is one after the call, by a test of the bytes that is written here. The method, the mode and
+ *   the count are those bytes, and a separator is one of twelve letters.
  * - The same call on other memory, with other content in its outputs, does the same.
  * - It makes no difference whether an empty buffer is NULL.
  * - A refusal by 3 is one for want of room: with enough of it the answer is longer than the room was. And an answer with
@@ -23,6 +24,7 @@
 #define MOST_INPUT 300
 #define MOST_ROOM 300
 #define MOST_SHOWN 20
+#define REFUSALS 11
 
 /* ---- random numbers: xorshift64* */
 
@@ -85,6 +87,7 @@ CALL(lower, g->a, p->first)
 CALL(upper, g->a, p->first)
 CALL(is_capital, g->a, p->first)
 CALL(is_white_space, g->a, p->first)
+CALL(is_separator, g->a, p->first)
 CALL(tone_on, g->a, g->b, p->first)
 CALL(tone_off, g->a, p->first)
 CALL(is_composer_vowel, g->a, p->first)
@@ -92,7 +95,10 @@ CALL(is_speller_vowel, g->a, p->first)
 CALL(read_utf8, WITH_INPUT, WITH_OUTPUT)
 CALL(write_utf8, WITH_INPUT, WITH_OUTPUT)
 CALL(new, WITH_STATE, g->a)
-CALL(composition_ok, WITH_STATE)
+CALL(check_composition, WITH_STATE)
+CALL(method, WITH_STATE, p->first)
+CALL(mode, WITH_STATE, p->first)
+CALL(count, WITH_STATE, p->first)
 CALL(key, WITH_STATE, g->a, WITH_OUTPUT)
 CALL(literal, WITH_STATE, g->a)
 CALL(text, WITH_STATE, WITH_OUTPUT)
@@ -109,6 +115,13 @@ CALL(verdict, WITH_INPUT, p->first)
 CALL(total, p->first)
 CALL(word, g->a, WITH_OUTPUT)
 CALL(next_word, WITH_INPUT, WITH_OUTPUT)
+
+/* This one returns no refusal: another number than the header's is given as one that no call has. */
+static uint32_t call_composition_bytes(const struct given *g, const struct places *p)
+{
+    (void)g, (void)p;
+    return pasdrongel_composition_bytes() == STATE ? PASDRONGEL_DONE : REFUSALS;
+}
 
 /* What `a` is for; `b` and `c` are letters. */
 enum numbers { NO_NUMBER, LETTER, KEY, SETTING, PLACE };
@@ -132,6 +145,7 @@ static const struct kind {
     {"upper", call_upper, R(1), NO_STATE, LETTER, 0, 0, 4, 0, 1},
     {"is_capital", call_is_capital, R(1), NO_STATE, LETTER, 0, 0, 4, 0, 1},
     {"is_white_space", call_is_white_space, R(1), NO_STATE, LETTER, 0, 0, 4, 0, 1},
+    {"is_separator", call_is_separator, R(1), NO_STATE, LETTER, 0, 0, 4, 0, 1},
     {"tone_on", call_tone_on, R(1), NO_STATE, LETTER, 0, 0, 4, 0, 1},
     {"tone_off", call_tone_off, R(1), NO_STATE, LETTER, 0, 0, 4, 0, 1},
     {"is_composer_vowel", call_is_composer_vowel, R(1), NO_STATE, LETTER, 0, 0, 4, 0, 1},
@@ -139,7 +153,11 @@ static const struct kind {
     {"read_utf8", call_read_utf8, R(6) | R(8) | R(1) | R(3), NO_STATE, NO_NUMBER, 1, 4, sizeof(size_t), 0, 8},
     {"write_utf8", call_write_utf8, R(6) | R(1) | R(3), NO_STATE, NO_NUMBER, 4, 1, sizeof(size_t), 0, 6},
     {"new", call_new, R(10), MADE, SETTING, 0, 0, 0, 0, 1},
-    {"composition_ok", call_composition_ok, R(10), READ, NO_NUMBER, 0, 0, 0, 0, 12},
+    {"composition_bytes", call_composition_bytes, 0, NO_STATE, NO_NUMBER, 0, 0, 0, 0, 1},
+    {"check_composition", call_check_composition, R(10), READ, NO_NUMBER, 0, 0, 0, 0, 12},
+    {"method", call_method, R(10), READ, NO_NUMBER, 0, 0, 4, 0, 4},
+    {"mode", call_mode, R(10), READ, NO_NUMBER, 0, 0, 4, 0, 4},
+    {"count", call_count, R(10), READ, NO_NUMBER, 0, 0, sizeof(size_t), 0, 4},
     {"key", call_key, R(10) | R(1) | R(2) | R(3), CHANGED, KEY, 0, 4, sizeof(size_t), 0, 120},
     {"literal", call_literal, R(10) | R(1) | R(2), CHANGED, KEY, 0, 0, 0, 0, 12},
     {"text", call_text, R(10) | R(3), READ, NO_NUMBER, 0, 4, sizeof(size_t), 0, 8},
@@ -158,7 +176,6 @@ static const struct kind {
     {"next_word", call_next_word, R(6) | R(1) | R(7) | R(3), NO_STATE, NO_NUMBER, 4, 4, sizeof(size_t), 0, 8},
 };
 #define KINDS (sizeof kinds / sizeof *kinds)
-#define REFUSALS 11
 
 /* The buffers of a call, in the order of `struct places`. */
 enum buffers { STATE_BUFFER, INPUT_BUFFER, OUTPUT_BUFFER, BUFFERS };
@@ -355,6 +372,24 @@ static void hold_answer(const struct kind *kind, const struct given *g, const st
     }
 }
 
+/* The numbers that are known here too. */
+static void hold_number(const struct kind *kind, const struct given *g, const struct left *left)
+{
+    static const char separators[] = "\t\n\v\f\r .,!?;:";
+    uint32_t number;
+    size_t cells;
+    memcpy(&number, left->first, sizeof number);
+    memcpy(&cells, left->first, sizeof cells);
+    if (left->refusal != PASDRONGEL_DONE)
+        return;
+    if ((kind->call == call_method && number != g->state[0]) || (kind->call == call_mode && number != g->state[1])
+        || (kind->call == call_count && cells != g->state[2]))
+        fault(kind, "it gives another number than the bytes have");
+    if (kind->call == call_is_separator
+        && number != (g->a < 0x80 && memchr(separators, (int)g->a, sizeof separators - 1) != NULL))
+        fault(kind, "it takes another letter for a separator");
+}
+
 static int same(const struct kind *kind, const struct given *g, const struct left *one, const struct left *other)
 {
     return one->refusal == other->refusal && one->count == other->count
@@ -391,6 +426,7 @@ static void hold(const struct kind *kind, const struct given *g, struct left *le
     make_call(kind, g, HIGH, 0xa5, left);
     hold_memory(kind, left);
     hold_answer(kind, g, left);
+    hold_number(kind, g, left);
     make_call(kind, g, LOW, 0x5a, &again);
     hold_memory(kind, &again);
     if (!same(kind, g, left, &again))
@@ -564,6 +600,14 @@ static void prepare(const struct kind *kind, struct given *g)
         to_undo(g);
 }
 
+static const struct kind *kind_of(caller *call)
+{
+    const struct kind *kind = kinds;
+    while (kind->call != call)
+        kind++;
+    return kind;
+}
+
 static const struct kind *some_kind(void)
 {
     unsigned total = 0, at;
@@ -597,7 +641,7 @@ static void session(void)
     typed_length = 0;
     calls++;
     if (PASDRONGEL_REFUSAL(pasdrongel_new(composition, STATE, below(2))) != PASDRONGEL_DONE)
-        fault(&kinds[11], "there is no new composition");
+        fault(kind_of(call_new), "there is no new composition");
     while (length-- > 0) {
         const struct kind *kind = some_kind();
         prepare(kind, &g);

@@ -43,6 +43,7 @@ static const struct {
     {"tone_off", pasdrongel_tone_off},
     {"is_capital", pasdrongel_is_capital},
     {"is_white_space", pasdrongel_is_white_space},
+    {"is_separator", pasdrongel_is_separator},
     {"is_composer_vowel", pasdrongel_is_composer_vowel},
     {"is_speller_vowel", pasdrongel_is_speller_vowel},
 };
@@ -334,7 +335,9 @@ static int replay_next_word(void)
 static struct {
     uint8_t bytes[MOST + 2 * MARGIN], before[MOST + 2 * MARGIN];
     size_t length, room;
-    uint32_t refusal, behaviour;
+    const char *call; /* the last one */
+    uint32_t refusal, number;
+    size_t cells;
 } session;
 
 /* The bytes of a cell: `a`, `U+0020,s`, `\303\242,marked,s,capital`. */
@@ -393,10 +396,12 @@ static void read_composition(uint8_t *bytes, const char *stop)
     }
 }
 /* Lends everything anew, and keeps the composition as it is before the call. */
-static void lend(void)
+static void lend(const char *call)
 {
     lend_output();
-    session.behaviour = GUARD;
+    session.call = call;
+    session.number = GUARD;
+    session.cells = GUARD;
     memcpy(session.before, session.bytes, sizeof session.before);
 }
 
@@ -404,7 +409,7 @@ static void press(const struct list *keys)
 {
     size_t i;
     for (i = 0; i < keys->length; i++) {
-        lend();
+        lend("key");
         session.refusal = PASDRONGEL_REFUSAL(pasdrongel_key(
             session.bytes + MARGIN, session.length, keys->items[i], output + MARGIN, session.room, &count));
     }
@@ -426,7 +431,7 @@ static uint32_t undo(void)
     uint32_t trigger = read_letter();
     expect("[");
     read_bracketed(&raw);
-    return pasdrongel_undo(session.bytes + MARGIN, session.length, trigger, raw.items, raw.length, &session.behaviour);
+    return pasdrongel_undo(session.bytes + MARGIN, session.length, trigger, raw.items, raw.length, &session.number);
 }
 
 /* A call of a session by its name; the keys are no call of their own. */
@@ -434,7 +439,7 @@ static uint32_t session_call(const char *name)
 {
     uint8_t *state = session.bytes + MARGIN;
     size_t length = session.length;
-    lend();
+    lend(name);
     if (strcmp(name, "telex") == 0 || strcmp(name, "vni") == 0)
         return pasdrongel_new(state, length, name[0] == 'v');
     if (strcmp(name, "new") == 0)
@@ -453,8 +458,14 @@ static uint32_t session_call(const char *name)
         return pasdrongel_set_mode(state, length, (uint32_t)read_number());
     if (strcmp(name, "undo") == 0)
         return undo();
-    if (strcmp(name, "composition_ok") == 0)
-        return pasdrongel_composition_ok(state, length);
+    if (strcmp(name, "check_composition") == 0)
+        return pasdrongel_check_composition(state, length);
+    if (strcmp(name, "method") == 0)
+        return pasdrongel_method(state, length, &session.number);
+    if (strcmp(name, "mode") == 0)
+        return pasdrongel_mode(state, length, &session.number);
+    if (strcmp(name, "count") == 0)
+        return pasdrongel_count(state, length, &session.cells);
     bad_line("this call is not known");
     return 0;
 }
@@ -489,8 +500,8 @@ static void session_step(const char *word)
 static int replay_session(void)
 {
     struct list text;
-    size_t expected_count = GUARD;
-    uint32_t expected_refusal = 0, expected_behaviour = GUARD;
+    size_t expected_count = GUARD, expected_cells = GUARD;
+    uint32_t expected_refusal = 0, expected_number = GUARD;
     const char *word;
     memset(session.bytes, GUARD_BYTE, sizeof session.bytes);
     session.length = COMPOSITION_BYTES;
@@ -506,15 +517,19 @@ static int replay_session(void)
             read_bracketed(&text);
             expected_count = text.length;
         } else if (strcmp(word, "append") == 0 || strcmp(word, "consume") == 0) {
-            expected_behaviour = word[0] == 'c';
+            expected_number = word[0] == 'c';
+        } else if (word[0] >= '0' && word[0] <= '9' && strcmp(session.call, "count") == 0) {
+            expected_cells = strtoul(word, NULL, 10);
+        } else if (word[0] >= '0' && word[0] <= '9') {
+            expected_number = (uint32_t)strtoul(word, NULL, 10);
         } else if (strcmp(word, "done") != 0) {
             bad_line("this answer is not known");
         }
         expect("/");
         read_composition(session.before + MARGIN, NULL);
     }
-    return session.refusal == expected_refusal && session.behaviour == expected_behaviour && count == expected_count
-        && output_has(&text) && memcmp(session.bytes, session.before, sizeof session.bytes) == 0;
+    return session.refusal == expected_refusal && session.number == expected_number && session.cells == expected_cells
+        && count == expected_count && output_has(&text) && memcmp(session.bytes, session.before, sizeof session.bytes) == 0;
 }
 
 static const struct {
