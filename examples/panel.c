@@ -92,8 +92,8 @@ static void remember(uint32_t key)
 static int separates(uint32_t key)
 {
     uint32_t yes;
-    must(pasdrongel_is_white_space(key, &yes));
-    return yes || key == '.' || key == ',' || key == '!' || key == '?' || key == ';' || key == ':';
+    must(pasdrongel_is_separator(key, &yes));
+    return yes != 0;
 }
 
 static void press(uint32_t key)

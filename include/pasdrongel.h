@@ -31,7 +31,8 @@ extern "C" {
  * C library it needs memcpy and memset, and nothing else. It has no data that is ever written: calls may run at the same
  * time, in threads or in a handler of signals, where what one of them writes is lent to no other. */
 
-/* No call takes more bytes of stack than this, counted from its return address on, memcpy and memset included. */
+/* No call takes more bytes of stack than this, counted from its return address on, memcpy and memset included. A loader that
+ * binds these two at their first call takes its own then; a program that is linked with -z now has none. */
 #define PASDRONGEL_STACK_BYTES 4096
 
 /* Memory. A call is lent buffers, each a pointer and a length, and places for one number, each a pointer. It reads and
@@ -221,7 +222,9 @@ uint32_t pasdrongel_remove_last(uint8_t *state, size_t size, uint32_t *text, siz
 uint32_t pasdrongel_undo(
     uint8_t *state, size_t size, uint32_t trigger, const uint32_t *raw, size_t length, uint32_t *behaviour);
 
-/* Empties the cells; method and mode stay. */
+/* Empties the cells; method and mode stay. A host does so at each separator (pasdrongel_is_separator), when it has taken the
+ * text over. Else a key of the next word may go to a vowel of the last: of the VNI keys pha6n, space, 2 the 2 becomes a tone,
+ * and is lost. */
 uint32_t pasdrongel_reset(uint8_t *state, size_t size);
 
 /* Sets the input method and empties the cells; the mode stays. Refuses by 10 also if `method` is no method. */
