@@ -5,59 +5,113 @@
  *     echo 'pha6n 2' | ./panel vni
  *
  * A separator ends the word: the panel takes its text over, and resets the composition. So a key never meets a word that
- * is finished. In one composition the keys above give "phân " and no 2: 2 is a tone key, and the tone falls on the space. */
+ * is finished. In one composition the keys above give "phân " and no 2: 2 is a tone key, and the tone falls on the space.
+ *
+ * Under Telex a key that is pressed again takes back what it did: as gives á, and ass gives as. Before a key is taken as a
+ * key it is offered to pasdrongel_undo, with the keys of the word so far. */
 #include <pasdrongel.h>
 #include <stdio.h>
+#include <stdlib.h>
 #include <string.h>
 
 static uint8_t composition[PASDRONGEL_COMPOSITION_BYTES];
+static uint32_t raw[PASDRONGEL_WORD_LETTERS]; /* the last keys that were taken of the word, as many as undo may be given */
+static size_t raw_length;
 static uint32_t line[PASDRONGEL_READ_ROOM]; /* the line as it is composed: no key adds more than a letter */
 static size_t line_length;
+
+static int done(uint32_t answer)
+{
+    return PASDRONGEL_REFUSAL(answer) == PASDRONGEL_DONE;
+}
+
+/* For what cannot be refused here. */
+static void must(uint32_t answer)
+{
+    if (done(answer))
+        return;
+    fprintf(stderr, "panel: %s\n", pasdrongel_refusal_text(answer));
+    exit(1);
+}
 
 static void print(const uint32_t *letters, size_t length)
 {
     uint8_t bytes[3]; /* no letter takes more */
     size_t i, count;
-    for (i = 0; i < length; i++)
-        if (pasdrongel_write_utf8(letters + i, 1, bytes, sizeof bytes, &count) == PASDRONGEL_DONE)
-            fwrite(bytes, 1, count, stdout);
+    for (i = 0; i < length; i++) {
+        must(pasdrongel_write_utf8(letters + i, 1, bytes, sizeof bytes, &count));
+        fwrite(bytes, 1, count, stdout);
+    }
 }
 
 static void end_word(void)
 {
-    uint32_t word[PASDRONGEL_TEXT_ROOM], next[PASDRONGEL_LISTED_ROOM], yes = 0;
-    size_t i, length = 0, next_length = 0;
-    pasdrongel_text(composition, sizeof composition, word, PASDRONGEL_TEXT_ROOM, &length);
+    uint32_t word[PASDRONGEL_TEXT_ROOM], next[PASDRONGEL_LISTED_ROOM], yes;
+    size_t i, length, next_length;
+    must(pasdrongel_text(composition, sizeof composition, word, PASDRONGEL_TEXT_ROOM, &length));
+    must(pasdrongel_reset(composition, sizeof composition));
+    raw_length = 0;
     if (length == 0)
         return;
     memcpy(line + line_length, word, length * sizeof *word);
     line_length += length;
-    pasdrongel_reset(composition, sizeof composition);
     print(word, length);
-    pasdrongel_verdict(word, length, &yes);
+    must(pasdrongel_verdict(word, length, &yes));
     printf("\t%s\t", yes ? "yes" : "no");
     for (i = 0; i < length; i++) { /* the list has small letters without tones, and so the dial starts from these */
-        pasdrongel_lower(word[i], &word[i]);
-        pasdrongel_tone_off(word[i], &word[i]);
+        must(pasdrongel_lower(word[i], &word[i]));
+        must(pasdrongel_tone_off(word[i], &word[i]));
     }
-    if (pasdrongel_next_word(word, length, next, PASDRONGEL_LISTED_ROOM, &next_length) == PASDRONGEL_DONE)
+    if (done(pasdrongel_next_word(word, length, next, PASDRONGEL_LISTED_ROOM, &next_length)))
         print(next, next_length);
     putchar('\n');
 }
 
+/* Takes back what the key did when it was pressed before; refused by 5 where that is nothing. The trigger is appended as a
+ * letter: as a key it would do the same again. If there is no cell for it, nothing is taken back. */
+static uint32_t undo(uint32_t key)
+{
+    uint8_t before[sizeof composition];
+    uint32_t behaviour, answer;
+    memcpy(before, composition, sizeof before);
+    answer = pasdrongel_undo(composition, sizeof composition, key, raw, raw_length, &behaviour);
+    if (done(answer) && behaviour == PASDRONGEL_APPEND)
+        answer = pasdrongel_literal(composition, sizeof composition, key);
+    if (!done(answer))
+        memcpy(composition, before, sizeof before);
+    return answer;
+}
+
+static void remember(uint32_t key)
+{
+    if (raw_length == PASDRONGEL_WORD_LETTERS)
+        memmove(raw, raw + 1, --raw_length * sizeof *raw);
+    raw[raw_length++] = key;
+}
+
+static int separates(uint32_t key)
+{
+    uint32_t yes;
+    must(pasdrongel_is_separator(key, &yes));
+    return yes != 0;
+}
+
 static void press(uint32_t key)
 {
-    uint32_t text[PASDRONGEL_TEXT_ROOM], separates = 0, refusal; /* a panel with a screen shows the text at each key */
+    uint32_t text[PASDRONGEL_TEXT_ROOM], answer; /* a panel with a screen shows the text at each key */
     size_t length;
-    pasdrongel_is_white_space(key, &separates);
-    if (separates || key == '.' || key == ',' || key == '!' || key == '?' || key == ';' || key == ':') {
+    if (separates(key)) {
         end_word();
         line[line_length++] = key;
         return;
     }
-    refusal = pasdrongel_key(composition, sizeof composition, key, text, PASDRONGEL_TEXT_ROOM, &length);
-    if (refusal != PASDRONGEL_DONE)
-        printf("a key is left out: %s\n", pasdrongel_refusal_text(refusal));
+    answer = undo(key);
+    if (PASDRONGEL_REFUSAL(answer) == PASDRONGEL_REFUSED_NO_UNDO)
+        answer = pasdrongel_key(composition, sizeof composition, key, text, PASDRONGEL_TEXT_ROOM, &length);
+    if (done(answer))
+        remember(key);
+    else
+        printf("a key is left out: %s\n", pasdrongel_refusal_text(answer));
 }
 
 /* Keeps at most one byte more than a line may have, so that a longer one is refused and no memory is asked for. */
@@ -73,17 +127,17 @@ static int read_line(uint8_t *bytes, size_t *length)
 int main(int count, char **words)
 {
     uint8_t bytes[PASDRONGEL_LINE_BYTES + 1];
-    uint32_t keys[PASDRONGEL_READ_ROOM], refusal;
+    uint32_t keys[PASDRONGEL_READ_ROOM], answer;
     size_t i, length, key_count;
     while (read_line(bytes, &length)) {
-        refusal = pasdrongel_read_utf8(bytes, length, keys, PASDRONGEL_READ_ROOM, &key_count);
-        if (refusal != PASDRONGEL_DONE) {
-            printf("a line is left out: %s\n", pasdrongel_refusal_text(refusal));
+        answer = pasdrongel_read_utf8(bytes, length, keys, PASDRONGEL_READ_ROOM, &key_count);
+        if (!done(answer)) {
+            printf("a line is left out: %s\n", pasdrongel_refusal_text(answer));
             continue;
         }
         line_length = 0;
-        pasdrongel_new(composition, sizeof composition,
-                       count > 1 && strcmp(words[1], "vni") == 0 ? PASDRONGEL_VNI : PASDRONGEL_TELEX);
+        must(pasdrongel_new(composition, sizeof composition,
+                            count > 1 && strcmp(words[1], "vni") == 0 ? PASDRONGEL_VNI : PASDRONGEL_TELEX));
         for (i = 0; i < key_count; i++)
             press(keys[i]);
         end_word();

@@ -7,9 +7,10 @@ uint32_t pasdrongel_version(void)
     return PASDRONGEL_VERSION;
 }
 
-const char *pasdrongel_refusal_text(uint32_t refusal)
+const char *pasdrongel_refusal_text(uint32_t answer)
 {
-    static const char *const texts[] = {
+    /* Rows of letters and not pointers to them: these would be written once, when the library is loaded. */
+    static const char texts[][64] = {
         [PASDRONGEL_DONE] = "done",
         [PASDRONGEL_REFUSED_FOREIGN] = "a code point is no letter of the alphabet",
         [PASDRONGEL_REFUSED_FULL] = "all cells of the composition are used",
@@ -22,5 +23,6 @@ const char *pasdrongel_refusal_text(uint32_t refusal)
         [PASDRONGEL_REFUSED_NO_METHOD] = "the first line names no input method",
         [PASDRONGEL_REFUSED_UNSOUND] = "the composition is not sound, or a number is no method or mode",
     };
+    uint32_t refusal = PASDRONGEL_REFUSAL(answer);
     return refusal < sizeof texts / sizeof *texts ? texts[refusal] : "no refusal has this number";
 }

@@ -1,13 +1,12 @@
 /* pasdrongel.h: a Vietnamese input composer for a host in C: letters, input methods, compositions, the speller, the list
  * of all accepted syllables, and UTF-8.
  *
- * Link with libpasdrongel.a; nothing else is needed. tools/install-host builds it, and a file for pkg-config.
+ * tools/install-host builds the library, to be linked statically or shared, with a file for pkg-config and with this header
+ * as the page pasdrongel(3).
  *
- * Every call returns a number: 0 when it is done, else the number of the refusal. It takes every value there is,
- * always ends, keeps nothing between calls and allocates nothing. After a refusal nothing is written. After
- * success an answer stands at the start of the lent output, and the rest of that output keeps its values.
- *
- * A pointer is never NULL, not even with a length of 0. Lent buffers do not overlap.
+ * Every call returns an answer: 0 when it is done, else the number of the refusal. It takes every value there is, always
+ * ends, keeps nothing between calls and allocates nothing. After a refusal nothing is written. After success what it found
+ * stands at the start of the lent output, and the rest of that output keeps its values.
  *
  * A letter is a code point: U+0000 to U+007F, or one of the 134 Vietnamese letters outside ASCII. */
 
@@ -23,10 +22,31 @@ extern "C" {
 
 /* The version of this header, and its three parts in one number. */
 #define PASDRONGEL_VERSION_MAJOR 0
-#define PASDRONGEL_VERSION_MINOR 1
+#define PASDRONGEL_VERSION_MINOR 2
 #define PASDRONGEL_VERSION_PATCH 0
 #define PASDRONGEL_VERSION \
     (PASDRONGEL_VERSION_MAJOR * 1000000 + PASDRONGEL_VERSION_MINOR * 1000 + PASDRONGEL_VERSION_PATCH)
+
+/* The platform. The library is position-independent code for x86-64, with the calling convention of Linux (System V). Of the
+ * C library it needs memcpy and memset, and nothing else. It has no data that is ever written: calls may run at the same
+ * time, in threads or in a handler of signals, where what one of them writes is lent to no other. */
+
+/* No call takes more bytes of stack than this, counted from its return address on, memcpy and memset included. A loader that
+ * binds these two at their first call takes its own then; a program that is linked with -z now has none. */
+#define PASDRONGEL_STACK_BYTES 4096
+
+/* Memory. A call is lent buffers, each a pointer and a length, and places for one number, each a pointer. It reads and
+ * writes nothing else, and keeps no pointer. The rest is for the host to see to: no call can test it.
+ *
+ * A buffer has as many items as its length says. An empty one may stand anywhere, and its pointer may be NULL; no other
+ * pointer may. Where a call says of pointers that they lie apart, what they point to shares no byte; if it does, nothing is
+ * known of what the call writes. Until the call returns, nobody else writes what it is lent, or reads what it writes. */
+
+/* Answers. */
+
+/* The refusal of an answer, or 0: its low byte. A host reads an answer by this, and compares no whole answers: the bytes
+ * above are 0 in this version, and a later one says there where the foreign letter stands. */
+#define PASDRONGEL_REFUSAL(answer) ((answer) & 0xffu)
 
 /* The call is done. */
 #define PASDRONGEL_DONE 0
@@ -84,14 +104,18 @@ extern "C" {
 #define PASDRONGEL_APPEND 0
 #define PASDRONGEL_CONSUME 1
 
-/* The library. These two return what they find, and refuse nothing. */
+/* The library. These three return what they find, and refuse nothing. */
 
 /* The version of the library that is linked: PASDRONGEL_VERSION of the header that it was built with. */
 uint32_t pasdrongel_version(void);
 
-/* A text for what a call returns, in English, in ASCII and on one line. A number that is none of the refusals has a text
- * too. It is never NULL, and stays as it is for as long as the program runs. */
-const char *pasdrongel_refusal_text(uint32_t refusal);
+/* The bytes of a composition in the library that is linked: PASDRONGEL_COMPOSITION_BYTES of the header that it was built
+ * with. */
+size_t pasdrongel_composition_bytes(void);
+
+/* A text for a whole answer, of which the low byte decides: in English, in ASCII, on one line and of at most 63 letters. A
+ * number that is no refusal has a text too. It is never NULL, and stays as it is for as long as the program runs. */
+const char *pasdrongel_refusal_text(uint32_t answer);
 
 /* Letters. */
 
@@ -109,6 +133,9 @@ uint32_t pasdrongel_is_capital(uint32_t letter, uint32_t *yes);
 
 /* `*yes` is 1 for U+0009 to U+000D and U+0020, else 0. Refuses by 1 what is no letter. */
 uint32_t pasdrongel_is_white_space(uint32_t letter, uint32_t *yes);
+
+/* `*yes` is 1 for white space and for . , ! ? ; : which end a syllable; else 0. Refuses by 1 what is no letter. */
+uint32_t pasdrongel_is_separator(uint32_t letter, uint32_t *yes);
 
 /* The letter with a tone. The tone keys are s 1 (acute), f 2 (grave), r 3 (hook), x 4 (tilde), j 5 (dot below).
  * An ASCII capital vowel gives the small toned letter. A letter that is no composer vowel stays as it is, and so does
@@ -142,23 +169,35 @@ uint32_t pasdrongel_mark_for(uint32_t method, uint32_t base, uint32_t key, uint3
 /* Compositions. A composition is what a grower is typing: its cells, the input method and the mode. It stands in `size`
  * bytes of the host at `state`, PASDRONGEL_COMPOSITION_BYTES of them, and a call finds and leaves it there. What the bytes
  * say is stated in docs/BYTES.md. A call that is given a composition refuses by 10 where the bytes are not that many, or
- * are not those of a sound composition. Two compositions are equal exactly where their bytes are. */
+ * are not those of a sound composition; `state` may be NULL if `size` is 0, and is then refused. Two compositions are equal
+ * exactly where their bytes are. */
 
 /* Makes `state` an empty composition under the input method, in Vietnamese mode, whatever the bytes were. Refuses by 10 if
  * `size` is another number, or `method` is no method. */
 uint32_t pasdrongel_new(uint8_t *state, size_t size, uint32_t method);
 
 /* Are these the bytes of a sound composition? 0 if they are, 10 if they are not. */
-uint32_t pasdrongel_composition_ok(const uint8_t *state, size_t size);
+uint32_t pasdrongel_check_composition(const uint8_t *state, size_t size);
+
+/* The input method: `*method` is PASDRONGEL_TELEX or PASDRONGEL_VNI. `state` and `method` lie apart. */
+uint32_t pasdrongel_method(const uint8_t *state, size_t size, uint32_t *method);
+
+/* The mode: `*mode` is PASDRONGEL_VIETNAMESE or PASDRONGEL_ENGLISH. `state` and `mode` lie apart. */
+uint32_t pasdrongel_mode(const uint8_t *state, size_t size, uint32_t *mode);
+
+/* How many cells are in use, from 0 to PASDRONGEL_CELLS, to `*count`. The text has as many letters. `state` and `count` lie
+ * apart. */
+uint32_t pasdrongel_count(const uint8_t *state, size_t size, size_t *count);
 
 /* Takes a key of the input method, and writes the text that stands then, as pasdrongel_text; in English mode the key changes
  * nothing, and that one letter is written. Refuses by 1 if `key` is no letter, by 2 if a letter must be appended and all
- * cells are used, by 3 if `room` is less than the letters; then the key is not taken. */
+ * cells are used, by 3 if `room` is less than the letters; then the key is not taken. `text` may be NULL if `room` is 0.
+ * `state`, `text` and `count` lie apart. */
 uint32_t pasdrongel_key(
     uint8_t *state, size_t size, uint32_t key, uint32_t *text, size_t room, size_t *count);
 
-/* The text, from the start of `text`, which has room for `room` letters, and their number to `*count`. Refuses by 3 if `room`
- * is less than the letters. */
+/* The text, from the start of `text`, which has room for `room` letters, and their number to `*count`. Refuses by 3 if
+ * `room` is less than the letters. `text` may be NULL if `room` is 0. `state`, `text` and `count` lie apart. */
 uint32_t pasdrongel_text(const uint8_t *state, size_t size, uint32_t *text, size_t room, size_t *count);
 
 /* Appends a letter as it is, in either mode: no key of the method. Refuses by 1 if `letter` is no letter, by 2 if all cells
@@ -166,17 +205,26 @@ uint32_t pasdrongel_text(const uint8_t *state, size_t size, uint32_t *text, size
 uint32_t pasdrongel_literal(uint8_t *state, size_t size, uint32_t letter);
 
 /* Removes the last cell, and writes the text that is left, as pasdrongel_text. Refuses by 4 if there is no cell, by 3 if
- * `room` is less than the letters. */
+ * `room` is less than the letters. `text` may be NULL if `room` is 0. `state`, `text` and `count` lie apart. */
 uint32_t pasdrongel_remove_last(uint8_t *state, size_t size, uint32_t *text, size_t room, size_t *count);
 
-/* Undoes the last step of Telex that the key `trigger` made, `raw` being the keys that were typed, `length` of them.
- * `*behaviour` is PASDRONGEL_APPEND if the host is to append the trigger as a letter, PASDRONGEL_CONSUME if not. Refuses by 6
- * if `length` is over PASDRONGEL_WORD_LETTERS, by 1 if `trigger` or one of `raw` is no letter, by 5 if there is nothing to
- * undo, which is always so under VNI. */
+/* Takes back a tone or a mark of Telex, because its key is pressed again. `trigger` is that key, and `raw` the keys of the
+ * word that were taken before it, `length` of them: the trigger is not among them. A tone goes if `raw` ends in the trigger
+ * (as, then s). A mark goes if the two keys that make it stand in `raw` with none of a e i o u y after them (dd, then d;
+ * aan, then a). `*behaviour` is PASDRONGEL_APPEND if the host is to append the trigger, by pasdrongel_literal and not by
+ * pasdrongel_key, which would put the tone back; it is PASDRONGEL_CONSUME if the trigger does no more. Either way the
+ * trigger is from then on one of the keys of the word.
+ *
+ * A host in Vietnamese mode asks at each key, before pasdrongel_key, and takes it as a key where this refuses by 5, as
+ * examples/panel.c does; this call does not look at the mode. Refuses by 6 if `length` is over PASDRONGEL_WORD_LETTERS, by 1
+ * if `trigger` or one of `raw` is no letter, by 5 if there is nothing to undo, which is always so under VNI. `raw` may be
+ * NULL if `length` is 0. `state`, `raw` and `behaviour` lie apart. */
 uint32_t pasdrongel_undo(
     uint8_t *state, size_t size, uint32_t trigger, const uint32_t *raw, size_t length, uint32_t *behaviour);
 
-/* Empties the cells; method and mode stay. */
+/* Empties the cells; method and mode stay. A host does so at each separator (pasdrongel_is_separator), when it has taken the
+ * text over. Else a key of the next word may go to a vowel of the last: of the VNI keys pha6n, space, 2 the 2 becomes a tone,
+ * and is lost. */
 uint32_t pasdrongel_reset(uint8_t *state, size_t size);
 
 /* Sets the input method and empties the cells; the mode stays. Refuses by 10 also if `method` is no method. */
@@ -190,36 +238,41 @@ uint32_t pasdrongel_set_mode(uint8_t *state, size_t size, uint32_t mode);
  * among them is no letter. */
 
 /* Cuts the word into onset, vowels and coda: the onset ends before place `*onset`, the vowels before place `*vowels`, and
- * what is left is the coda. */
+ * what is left is the coda. `word` may be NULL if `length` is 0. `word`, `onset` and `vowels` lie apart. */
 uint32_t pasdrongel_cut(const uint32_t *word, size_t length, size_t *onset, size_t *vowels);
 
-/* `*yes` is 1 if the word is accepted as a Vietnamese syllable, else 0. Capitals and tones make no difference. */
+/* `*yes` is 1 if the word is accepted as a Vietnamese syllable, else 0. Capitals and tones make no difference. `word` may be
+ * NULL if `length` is 0, and is then no syllable. `word` and `yes` lie apart. */
 uint32_t pasdrongel_verdict(const uint32_t *word, size_t length, uint32_t *yes);
 
-/* The list of all accepted syllables, small and without tones, in dictionary order by code point. A word is written from the
- * start of `word`, which has room for `room` letters, and its length to `*count`. */
+/* The list. It has all accepted syllables, small and without tones, in dictionary order by code point. A word is written from
+ * the start of `word`, which has room for `room` letters, and its length to `*count`. */
 
 /* How many words the list has. */
 uint32_t pasdrongel_total(size_t *total);
 
-/* The word of a number, from 0. Refuses by 7 if there is none, by 3 if `room` is less than its letters. */
+/* The word of a number, from 0. Refuses by 7 if there is none, by 3 if `room` is less than its letters. `word` may be NULL if
+ * `room` is 0. `word` and `count` lie apart. */
 uint32_t pasdrongel_word(size_t number, uint32_t *word, size_t room, size_t *count);
 
 /* The first listed word that comes after `after`, which has `length` letters and need not be listed itself. Refuses by 6 if
- * `length` is over PASDRONGEL_WORD_LETTERS, by 1 if a code point among them is no letter, by 7 if no listed word follows, by 3
- * if `room` is less than the letters. */
+ * `length` is over PASDRONGEL_WORD_LETTERS, by 1 if a code point among them is no letter, by 7 if no listed word follows, by
+ * 3 if `room` is less than the letters. `after` may be NULL if `length` is 0, and comes before every word; `word` may be NULL
+ * if `room` is 0. `after`, `word` and `count` lie apart: the next word is not written over the last. */
 uint32_t pasdrongel_next_word(const uint32_t *after, size_t length, uint32_t *word, size_t room, size_t *count);
 
 /* UTF-8, as RFC 3629 defines it. */
 
 /* The letters that `length` bytes spell. They are written from the start of `letters`, which has room for `room`, and
  * their number to `*count`. Refuses by 6 if `length` is over PASDRONGEL_LINE_BYTES. Otherwise the first faulty
- * character decides: 8 if it is malformed, 1 if it is no letter. Refuses by 3 if `room` is less than the letters. */
+ * character decides: 8 if it is malformed, 1 if it is no letter. Refuses by 3 if `room` is less than the letters. `bytes`
+ * may be NULL if `length` is 0, `letters` may be NULL if `room` is 0. `bytes`, `letters` and `count` lie apart. */
 uint32_t pasdrongel_read_utf8(const uint8_t *bytes, size_t length, uint32_t *letters, size_t room, size_t *count);
 
 /* The bytes that spell `length` letters. They are written from the start of `bytes`, which has room for `room`, and
  * their number to `*count`; no byte 0 is added. Refuses by 6 if `length` is over PASDRONGEL_WORD_LETTERS, by 1 if a
- * code point among them is no letter, by 3 if `room` is less than the bytes. */
+ * code point among them is no letter, by 3 if `room` is less than the bytes. `letters` may be NULL if `length` is 0, `bytes`
+ * may be NULL if `room` is 0. `letters`, `bytes` and `count` lie apart. */
 uint32_t pasdrongel_write_utf8(const uint32_t *letters, size_t length, uint8_t *bytes, size_t room, size_t *count);
 
 #ifdef __cplusplus

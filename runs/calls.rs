@@ -10,6 +10,7 @@ pub mod host {
         pub fn pasdrongel_upper(letter: u32, capital: *mut u32) -> u32;
         pub fn pasdrongel_is_capital(letter: u32, yes: *mut u32) -> u32;
         pub fn pasdrongel_is_white_space(letter: u32, yes: *mut u32) -> u32;
+        pub fn pasdrongel_is_separator(letter: u32, yes: *mut u32) -> u32;
         pub fn pasdrongel_tone_on(letter: u32, tone: u32, toned: *mut u32) -> u32;
         pub fn pasdrongel_tone_off(letter: u32, plain: *mut u32) -> u32;
         pub fn pasdrongel_is_composer_vowel(letter: u32, yes: *mut u32) -> u32;
@@ -18,7 +19,11 @@ pub mod host {
         pub fn pasdrongel_is_horn_key(method: u32, key: u32, yes: *mut u32) -> u32;
         pub fn pasdrongel_mark_for(method: u32, base: u32, key: u32, mark: *mut u32) -> u32;
         pub fn pasdrongel_new(state: *mut u8, size: usize, method: u32) -> u32;
-        pub fn pasdrongel_composition_ok(state: *const u8, size: usize) -> u32;
+        pub fn pasdrongel_composition_bytes() -> usize;
+        pub fn pasdrongel_check_composition(state: *const u8, size: usize) -> u32;
+        pub fn pasdrongel_method(state: *const u8, size: usize, method: *mut u32) -> u32;
+        pub fn pasdrongel_mode(state: *const u8, size: usize, mode: *mut u32) -> u32;
+        pub fn pasdrongel_count(state: *const u8, size: usize, count: *mut usize) -> u32;
         pub fn pasdrongel_key(
             state: *mut u8, size: usize, key: u32, text: *mut u32, room: usize, count: *mut usize) -> u32;
         pub fn pasdrongel_text(

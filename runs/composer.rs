@@ -1,6 +1,7 @@
 //! The composer: every call on a composition against the Rust's engine, on the bytes that C lends. Each comparison is of
 //! one call: the number that it returns, the whole lent output, and every byte of the composition.
 
+use crate::calls::host;
 use crate::composition::{answered, show_bytes, Call, Composition, Left, Oracle, State, CELLS, MOST_BYTES, ROOM, SIZE};
 use crate::engine::bamboo::spy::Cell;
 use crate::engine::bamboo::{BambooEngine, Mode};
@@ -38,6 +39,7 @@ pub fn fixed() -> Vec<String> {
 
 pub fn compare(run: &mut Run) {
     let mut composer = Composer { run, oracle: Oracle::new() };
+    composer.size();
     composer.strings(&SHORT_STRINGS);
     composer.reaches();
     composer.full();
@@ -143,6 +145,12 @@ impl Composer<'_> {
         }
     }
 
+    fn size(&mut self) {
+        self.run.begin("composition_bytes: three bytes, and eight for each of 32 cells");
+        let ours = unsafe { host::pasdrongel_composition_bytes() };
+        self.run.compare("composition_bytes", ours, SIZE, Vec::new, String::new);
+    }
+
     fn strings(&mut self, kinds: &[(InputMethod, &str, &str, usize)]) {
         for &(method, name, keys, length) in kinds {
             self.run.begin(&format!("key: every {name} string of up to {length} over `{keys}`"));
@@ -241,7 +249,7 @@ impl Composer<'_> {
         use Call::*;
         for call in [
             New(0), New(1), Text(ROOM), RemoveLast(ROOM), Reset, SetMethod(0), SetMethod(1), SetMode(0), SetMode(1),
-            Undo('w'.into(), &codes("aw")), Undo('s'.into(), &codes("s")), CompositionOk,
+            Undo('w'.into(), &codes("aw")), Undo('s'.into(), &codes("s")), CheckComposition, Method, Mode, Count,
         ] {
             self.call(state, call);
         }
@@ -349,7 +357,7 @@ impl Composer<'_> {
 
     /// Every byte of some compositions with every other value, and every other length: sound or not, as the oracle says.
     fn unsound(&mut self) {
-        self.run.begin("composition_ok, key: every byte changed to every value");
+        self.run.begin("check_composition, key: every byte changed to every value");
         let odd = odd_cells();
         let cells: Vec<Cell> = odd.iter().copied().step_by(odd.len() / CELLS).take(CELLS).collect();
         let changed: Vec<State> = [&[][..], &[plain('a')], &cells[..7], &cells].map(|cells| handed(Telex, cells).bytes()).into();
@@ -358,7 +366,7 @@ impl Composer<'_> {
                 for value in 0..=0xff {
                     let mut other = *state;
                     other[place] = value;
-                    self.call(&other, Call::CompositionOk);
+                    self.call(&other, Call::CheckComposition);
                     self.call(&other, Call::Key('a'.into(), ROOM));
                 }
             }
@@ -436,9 +444,9 @@ impl Composer<'_> {
         }
     }
 
-    /// Sessions as a host has them, with the text asked for after each call.
+    /// Sessions as a host has them, with the text and the numbers asked for after each call.
     fn sessions(&mut self) {
-        self.run.begin("every call: random sessions of up to 130 calls, the text after each");
+        self.run.begin("every call: random sessions of up to 130 calls, text, method, mode and count after each");
         for _ in self.run.times(15_000) {
             let mut state = appended(self.run.random().of(&[Telex, Vni]), "");
             let mut raw: Vec<u32> = Vec::new();
@@ -457,7 +465,7 @@ impl Composer<'_> {
                     183..185 => Call::SetMethod(self.run.random().below(2) as u32),
                     185..187 => Call::SetMode(1),
                     187..197 => Call::SetMode(0),
-                    197..199 => Call::CompositionOk,
+                    197..199 => Call::CheckComposition,
                     _ => Call::New(self.run.random().below(2) as u32),
                 };
                 state = self.step(&state, call);
@@ -467,7 +475,9 @@ impl Composer<'_> {
                     Call::Reset => raw.clear(),
                     _ => {}
                 }
-                self.call(&state, Call::Text(ROOM));
+                for asked in [Call::Text(ROOM), Call::Method, Call::Mode, Call::Count] {
+                    self.call(&state, asked);
+                }
             }
         }
     }
@@ -476,7 +486,9 @@ impl Composer<'_> {
 impl Composer<'_> {
     /// One engine of the Rust through a whole session, with nothing handed in: what it keeps beside the cells is seen so.
     fn one_engine(&mut self) {
-        self.run.begin("key, literal, remove_last, undo, reset: sessions of up to 130 calls on one engine of the Rust");
+        self.run.begin(
+            "key, literal, remove_last, undo, reset: sessions of up to 130 calls on one engine of the Rust, its numbers after each",
+        );
         for _ in self.run.times(2_000) {
             let method = self.run.random().of(&[Telex, Vni]);
             let (mut engine, mut state) = (BambooEngine::new(method), appended(method, ""));
@@ -491,10 +503,12 @@ impl Composer<'_> {
                     96..99 => Call::Undo(key, &raw[raw.len().saturating_sub(WORD_LETTERS)..]),
                     _ => Call::Reset,
                 };
-                let (ours, theirs) = (Left::of(&state, call), Left::by(&state, answered(&mut engine, call)));
-                let size = || state.iter().map(|&byte| byte.into()).collect();
-                self.run.compare(call.name(), &ours, &theirs, size, || format!("{call:?}; on {}", show_bytes(&state)));
-                state = theirs.state();
+                for call in [call, Call::Method, Call::Mode, Call::Count] {
+                    let (ours, theirs) = (Left::of(&state, call), Left::by(&state, answered(&mut engine, call)));
+                    let size = || state.iter().map(|&byte| byte.into()).collect();
+                    self.run.compare(call.name(), &ours, &theirs, size, || format!("{call:?}; on {}", show_bytes(&state)));
+                    state = theirs.state();
+                }
                 raw.push(key);
             }
         }

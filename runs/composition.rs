@@ -31,7 +31,10 @@ pub enum Call<'a> {
     SetMethod(u32),
     SetMode(u32),
     Undo(u32, &'a [u32]),
-    CompositionOk,
+    CheckComposition,
+    Method,
+    Mode,
+    Count,
 }
 
 impl Call<'_> {
@@ -46,7 +49,10 @@ impl Call<'_> {
             Call::SetMethod(_) => "set_method",
             Call::SetMode(_) => "set_mode",
             Call::Undo(..) => "undo",
-            Call::CompositionOk => "composition_ok",
+            Call::CheckComposition => "check_composition",
+            Call::Method => "method",
+            Call::Mode => "mode",
+            Call::Count => "count",
         }
     }
 
@@ -57,7 +63,7 @@ impl Call<'_> {
             Call::Key(key, room) => vec![key, room as u32],
             Call::Text(room) | Call::RemoveLast(room) => vec![room as u32],
             Call::Undo(trigger, raw) => [&[trigger], raw].concat(),
-            Call::Reset | Call::CompositionOk => vec![],
+            Call::Reset | Call::CheckComposition | Call::Method | Call::Mode | Call::Count => vec![],
         }
     }
 }
@@ -71,7 +77,7 @@ impl Debug for Call<'_> {
             Call::Literal(letter) => write!(f, " {}", sign(letter)),
             Call::Text(room) | Call::RemoveLast(room) => write!(f, ", room {room}"),
             Call::Undo(trigger, raw) => write!(f, " {} {}", sign(trigger), bracketed(raw)),
-            Call::Reset | Call::CompositionOk => Ok(()),
+            Call::Reset | Call::CheckComposition | Call::Method | Call::Mode | Call::Count => Ok(()),
         }
     }
 }
@@ -159,7 +165,8 @@ fn read_cell(bytes: &[u8]) -> Option<Cell> {
 pub struct Done {
     composition: Composition,
     text: Option<Vec<u32>>,
-    behaviour: Option<u32>,
+    number: Option<u32>,
+    cells: Option<usize>,
 }
 
 /// The Rust's engines, one for each method.
@@ -182,7 +189,7 @@ impl Oracle {
     fn answer(&mut self, state: &[u8], call: Call) -> Result<Done, u32> {
         if let Call::New(method) = call {
             let method = method_of(method).filter(|_| state.len() == SIZE).ok_or(UNSOUND)?;
-            return Ok(Done { composition: Composition::new(method), text: None, behaviour: None });
+            return Ok(Done { composition: Composition::new(method), text: None, number: None, cells: None });
         }
         let before = Composition::read(state).ok_or(UNSOUND)?;
         if let Call::SetMethod(method) = call {
@@ -199,7 +206,7 @@ impl Oracle {
 
 /// What an engine answers as it stands, with 01's refusals around it.
 pub fn answered(engine: &mut BambooEngine, call: Call) -> Result<Done, u32> {
-    let (mut text, mut behaviour) = (None, None);
+    let (mut text, mut number, mut cells) = (None, None, None);
     match call {
         Call::Key(key, room) => {
             let written = engine.process_key(oracle::letter(key)?).expect("a key is answered by a text");
@@ -217,19 +224,22 @@ pub fn answered(engine: &mut BambooEngine, call: Call) -> Result<Done, u32> {
             }
             let trigger = oracle::letter(trigger)?;
             let raw = raw.iter().map(|&key| oracle::letter(key)).collect::<Result<String, u32>>()?;
-            behaviour = Some(match engine.undo_telex_transform(trigger, &raw).ok_or(NO_UNDO)? {
+            number = Some(match engine.undo_telex_transform(trigger, &raw).ok_or(NO_UNDO)? {
                 TelexUndo::AppendTrigger => 0,
                 TelexUndo::ConsumeTrigger => 1,
             });
         }
-        Call::CompositionOk | Call::New(_) => {}
+        Call::Method => number = Some(u32::from(spy::method(engine) == InputMethod::Vni)),
+        Call::Mode => number = Some(u32::from(!engine.is_enabled())),
+        Call::Count => cells = Some(spy::cells(engine).count()),
+        Call::CheckComposition | Call::New(_) => {}
     }
     let composition = composition_of(engine);
     if composition.cells.len() > CELLS {
         return Err(FULL);
     }
     let text = text.map(|(text, room)| fitting(&text, room)).transpose()?;
-    Ok(Done { composition, text, behaviour })
+    Ok(Done { composition, text, number, cells })
 }
 
 fn composition_of(engine: &BambooEngine) -> Composition {
@@ -247,7 +257,8 @@ fn fitting(text: &str, room: usize) -> Result<Vec<u32>, u32> {
 pub struct Left {
     refusal: u32,
     count: usize,
-    behaviour: u32,
+    number: u32,
+    cells: usize,
     output: [u32; ROOM + 2 * MARGIN],
     length: usize,
     state: [u8; MOST_BYTES + 2 * MARGIN],
@@ -258,7 +269,8 @@ impl Left {
         let mut state = [GUARD_BYTE; MOST_BYTES + 2 * MARGIN];
         state[MARGIN..MARGIN + bytes.len()].copy_from_slice(bytes);
         let output = [GUARD; ROOM + 2 * MARGIN];
-        Left { refusal: 0, count: GUARD_COUNT, behaviour: GUARD, output, length: bytes.len(), state }
+        let (count, number, cells) = (GUARD_COUNT, GUARD, GUARD_COUNT);
+        Left { refusal: 0, count, number, cells, output, length: bytes.len(), state }
     }
 
     /// What a call must leave: its answer, or after a refusal all as it was.
@@ -268,7 +280,8 @@ impl Left {
             Err(refusal) => left.refusal = refusal,
             Ok(done) => {
                 left.state[MARGIN..MARGIN + SIZE].copy_from_slice(&done.composition.bytes());
-                left.behaviour = done.behaviour.unwrap_or(GUARD);
+                left.number = done.number.unwrap_or(GUARD);
+                left.cells = done.cells.unwrap_or(GUARD_COUNT);
                 if let Some(text) = done.text {
                     left.count = text.len();
                     left.output[MARGIN..MARGIN + text.len()].copy_from_slice(&text);
@@ -283,6 +296,7 @@ impl Left {
         let mut left = Left::before(bytes);
         let (state, length) = (left.state[MARGIN..].as_mut_ptr(), bytes.len());
         let (letters, count) = (left.output[MARGIN..].as_mut_ptr(), &raw mut left.count);
+        let (number, cells) = (&raw mut left.number, &raw mut left.cells);
         left.refusal = unsafe {
             match call {
                 Call::New(method) => host::pasdrongel_new(state, length, method),
@@ -294,10 +308,12 @@ impl Left {
                 Call::SetMethod(method) => host::pasdrongel_set_method(state, length, method),
                 Call::SetMode(mode) => host::pasdrongel_set_mode(state, length, mode),
                 Call::Undo(trigger, raw) => {
-                    let (keys, behaviour) = (raw.len(), &raw mut left.behaviour);
-                    host::pasdrongel_undo(state, length, trigger, raw.as_ptr(), keys, behaviour)
+                    host::pasdrongel_undo(state, length, trigger, raw.as_ptr(), raw.len(), number)
                 }
-                Call::CompositionOk => host::pasdrongel_composition_ok(state, length),
+                Call::CheckComposition => host::pasdrongel_check_composition(state, length),
+                Call::Method => host::pasdrongel_method(state, length, number),
+                Call::Mode => host::pasdrongel_mode(state, length, number),
+                Call::Count => host::pasdrongel_count(state, length, cells),
             }
         };
         left
@@ -307,8 +323,10 @@ impl Left {
         self.refusal
     }
 
-    pub fn behaviour(&self) -> u32 {
-        self.behaviour
+    /// The number that the call gives: what becomes of an undo's key, the method, the mode, or how many cells there are.
+    pub fn number(&self) -> Option<usize> {
+        let number = Some(self.number as usize).filter(|&number| number != GUARD as usize);
+        number.or(Some(self.cells).filter(|&cells| cells != GUARD_COUNT))
     }
 
     /// The letters that the call says it wrote.
@@ -330,8 +348,11 @@ impl Left {
 impl Debug for Left {
     fn fmt(&self, f: &mut Formatter) -> std::fmt::Result {
         write!(f, "returns {}", self.refusal)?;
-        if self.behaviour != GUARD {
-            write!(f, ", behaviour {}", self.behaviour)?;
+        if self.number != GUARD {
+            write!(f, ", number {}", self.number)?;
+        }
+        if self.cells != GUARD_COUNT {
+            write!(f, ", cells {}", self.cells)?;
         }
         let written = self.output.iter().filter(|&&letter| letter != GUARD).count();
         match self.text() {

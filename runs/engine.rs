@@ -6,7 +6,7 @@ pub mod bamboo {
     include!(concat!(env!("ENGINE"), "/bamboo.rs"));
 
     pub mod spy {
-        use super::{BambooEngine, Mode, Transformation};
+        use super::{BambooEngine, InputMethod, Mode, Transformation};
 
         pub fn is_vowel(letter: char) -> bool {
             super::is_vowel(letter)
@@ -47,8 +47,15 @@ pub mod bamboo {
             engine.mode = mode;
         }
 
-        pub fn method(engine: &BambooEngine) -> super::InputMethod {
+        pub fn method(engine: &BambooEngine) -> InputMethod {
             engine.rules.method
+        }
+
+        /// Does the last syllable start after a cell of this letter?
+        pub fn separates(letter: char) -> bool {
+            let mut engine = BambooEngine::new(InputMethod::Telex);
+            hand_in(&mut engine, &[Cell { base: letter, mark: None, tone: None, upper: false }], Mode::Vietnamese);
+            engine.last_syllable_range().start == 1
         }
     }
 }

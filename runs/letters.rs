@@ -13,9 +13,10 @@ const LETTER_TO_LETTER: [OneLetter; 3] = [
     ("tone_off", host::pasdrongel_tone_off, oracle::tone_off),
 ];
 
-const LETTER_TO_YES: [OneLetter; 4] = [
+const LETTER_TO_YES: [OneLetter; 5] = [
     ("is_capital", host::pasdrongel_is_capital, oracle::is_capital),
     ("is_white_space", host::pasdrongel_is_white_space, oracle::is_white_space),
+    ("is_separator", host::pasdrongel_is_separator, oracle::is_separator),
     ("is_composer_vowel", host::pasdrongel_is_composer_vowel, oracle::is_composer_vowel),
     ("is_speller_vowel", host::pasdrongel_is_speller_vowel, oracle::is_speller_vowel),
 ];

@@ -78,6 +78,10 @@ pub fn is_white_space(letter: char) -> u32 {
     u32::from(letter.is_whitespace())
 }
 
+pub fn is_separator(letter: char) -> u32 {
+    u32::from(bamboo::spy::separates(letter))
+}
+
 pub fn tone_off(letter: char) -> u32 {
     u32::from(spelling::spy::strip_tone(letter))
 }

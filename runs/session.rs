@@ -18,7 +18,7 @@ struct Session {
     bytes: Vec<u8>,
     calls: Vec<String>,
     pressed: Vec<u32>,
-    last: Option<Left>,
+    last: Option<(&'static str, Left)>,
 }
 
 impl Session {
@@ -39,7 +39,7 @@ impl Session {
     fn call(&mut self, call: Call) {
         let left = self.oracle.left(&self.bytes, call);
         self.bytes = left.bytes().to_vec();
-        self.last = Some(left);
+        self.last = Some((call.name(), left));
     }
 
     fn say(&mut self, words: String) {
@@ -102,12 +102,12 @@ impl Session {
 
     fn line(mut self) -> String {
         self.say("=".to_string());
-        let last = self.last.expect("a session has a call");
-        let answer = match (last.refusal(), last.text(), last.behaviour()) {
+        let (name, last) = self.last.expect("a session has a call");
+        let answer = match (last.refusal(), last.text(), last.number()) {
             (0, Some(text), _) => bracketed(text),
-            (0, None, 0) => "append".to_string(),
-            (0, None, 1) => "consume".to_string(),
-            (0, None, _) => "done".to_string(),
+            (0, None, Some(behaviour)) if name == "undo" => ["append", "consume"][behaviour].to_string(),
+            (0, None, Some(number)) => number.to_string(),
+            (0, None, None) => "done".to_string(),
             (refusal, ..) => refused(refusal),
         };
         let calls = self.calls.join(" ");
@@ -231,7 +231,10 @@ fn reaches() -> Vec<String> {
     lines
 }
 
-/// Rooms, removal, literals, reset, the settings and English mode.
+/// The calls that only tell of a composition, but for its text.
+const ASKED: [Call; 4] = [Call::CheckComposition, Call::Method, Call::Mode, Call::Count];
+
+/// Rooms, removal, literals, reset, the settings, the numbers and English mode.
 fn calls() -> Vec<String> {
     let start = |keys: &str| Session::new(Telex).typed(keys);
     let mut lines = Vec::new();
@@ -242,7 +245,8 @@ fn calls() -> Vec<String> {
         lines.push(start("dda").room(room).named(Call::RemoveLast(room)).line());
         lines.push(start("a").named(Call::SetMode(1)).room(room).typed("w").line());
     }
-    for call in [Call::Text(ROOM), Call::RemoveLast(ROOM), Call::Reset, Call::CompositionOk, Call::SetMode(0), Call::SetMode(1)] {
+    let changes = [Call::Text(ROOM), Call::RemoveLast(ROOM), Call::Reset, Call::SetMode(0), Call::SetMode(1)];
+    for call in changes.into_iter().chain(ASKED) {
         lines.push(start("").named(call).line());
         lines.push(start("Uows").named(call).line());
         lines.push(start("Uows").named(call).typed("a").line());
@@ -254,6 +258,7 @@ fn calls() -> Vec<String> {
             lines.push(start("Uows").named(call).line());
             lines.push(start("Uows").named(call).typed("a6").line());
             lines.push(start("o").named(Call::SetMode(1)).named(Call::Literal('s'.into())).named(call).line());
+            lines.extend(ASKED.map(|asked| start("Uows").named(call).named(asked).line()));
         }
     }
     for letter in codes("aAsw Ăđ\0").into_iter().chain([0x80, 0xd800, 0x110000, 0x80000061]) {
@@ -330,17 +335,18 @@ fn unsound() -> Vec<String> {
         (34, &[1]), (SIZE - 8, &[0x61]), (SIZE - 2, &[0x73]), (SIZE - 1, &[1]),
     ] {
         for &value in values {
-            for call in [Call::CompositionOk, Call::Text(ROOM), Call::Reset] {
+            for call in ASKED.into_iter().chain([Call::Text(ROOM), Call::Reset]) {
                 lines.push(session().poke(place, value).named(call).line());
             }
             lines.push(session().poke(place, value).typed("a").line());
         }
     }
     for length in [0, 1, 2, 3, 11, SIZE - 1, SIZE + 1, SIZE + 8] {
-        for call in [
-            Call::CompositionOk, Call::Text(ROOM), Call::RemoveLast(ROOM), Call::Reset, Call::New(0), Call::SetMethod(0),
-            Call::SetMode(0), Call::Literal('a'.into()), Call::Key('a'.into(), ROOM),
-        ] {
+        let changes = [
+            Call::Text(ROOM), Call::RemoveLast(ROOM), Call::Reset, Call::New(0), Call::SetMethod(0), Call::SetMode(0),
+            Call::Literal('a'.into()), Call::Key('a'.into(), ROOM),
+        ];
+        for call in ASKED.into_iter().chain(changes) {
             let shorter = session().length(length);
             lines.push(match call {
                 Call::Key(key, _) => shorter.keys(&[key]).line(),

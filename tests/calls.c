@@ -76,9 +76,11 @@ static uint32_t *told_yes(void)
 /* What a call that is done may have written. */
 enum writes { NOTHING = 0, THE_STATE = 1, THE_LETTERS = 2, THE_BYTES = 4, THE_NUMBER = 8, A_COUNT = 16, TWO_PLACES = 32 };
 
-static uint32_t end_of_call(uint32_t refusal, int writes)
+static uint32_t end_of_call(uint32_t answer, int writes)
 {
     size_t i, unit = writes & THE_LETTERS ? sizeof *letters : writes & THE_BYTES ? sizeof *bytes : 0;
+    uint32_t refusal = PASDRONGEL_REFUSAL(answer);
+    FACT(refusal == answer); /* nothing stands above the refusal in this version */
     if (refusal != PASDRONGEL_DONE) {
         for (i = 0; i < EVERYTHING; i++)
             FACT(kept(everything[i], 0));
@@ -173,10 +175,24 @@ static uint32_t start(uint32_t method)
     return end_of_call(pasdrongel_new(given(), state_size, method), THE_STATE);
 }
 
-static uint32_t composition_ok(void)
+static uint32_t check_composition(void)
 {
     begin();
-    return end_of_call(pasdrongel_composition_ok(given(), state_size), NOTHING);
+    return end_of_call(pasdrongel_check_composition(given(), state_size), NOTHING);
+}
+
+typedef uint32_t number_call(const uint8_t *state, size_t size, uint32_t *answer);
+
+static uint32_t of_state(number_call *call)
+{
+    begin();
+    return end_of_call(call(given(), state_size, told_yes()), THE_NUMBER);
+}
+
+static uint32_t count_cells(void)
+{
+    begin();
+    return end_of_call(pasdrongel_count(given(), state_size, counted()), A_COUNT);
 }
 
 static uint32_t key(uint32_t letter, size_t room)
@@ -286,7 +302,8 @@ static uint32_t next_letters(const uint32_t *after, size_t length, size_t room)
 static void letters_facts(void)
 {
     static letter_call *const of_one[] = {pasdrongel_lower, pasdrongel_upper, pasdrongel_is_capital,
-        pasdrongel_is_white_space, pasdrongel_tone_off, pasdrongel_is_composer_vowel, pasdrongel_is_speller_vowel};
+        pasdrongel_is_white_space, pasdrongel_is_separator, pasdrongel_tone_off, pasdrongel_is_composer_vowel,
+        pasdrongel_is_speller_vowel};
     static const uint32_t foreign[] = {0x80, FOREIGN, 0xd7, 0x10f, 0x1e9f, 0x1efa, 0x301, 0xd800, 0xfffd, 0x10ffff,
         0x110000, 0x80000061, 0xffffffff};
     static const uint32_t letter[] = {0, 0x7f, 0xc0, 0xfd, 0x102, 0x110, 0x1b0, 0x1ea0, 0x1ef9};
@@ -314,6 +331,10 @@ static void letters_facts(void)
     GIVES(pasdrongel_is_white_space, 0x20, 1);
     GIVES(pasdrongel_is_white_space, 0x0d, 1);
     GIVES(pasdrongel_is_white_space, 0x1c, 0);
+    for (i = 0; i < 0x80; i++)
+        GIVES(pasdrongel_is_separator, (uint32_t)i, (i >= 9 && i <= 13) || (i != 0 && strchr(" .,!?;:", (int)i) != NULL));
+    for (i = 2; i < sizeof letter / sizeof *letter; i++)
+        GIVES(pasdrongel_is_separator, letter[i], 0);
     GIVES(pasdrongel_tone_off, letter_of("ầ"), letter_of("â"));
     GIVES(pasdrongel_tone_off, letter_of("Ầ"), letter_of("Ầ"));
     GIVES(pasdrongel_is_composer_vowel, 'Y', 1);
@@ -392,7 +413,7 @@ static void type(const char *keys)
     size_t i, n = spelt(keys, code_points);
     for (i = 0; i < n; i++) {
         FACT(key(code_points[i], PASDRONGEL_TEXT_ROOM) == PASDRONGEL_DONE);
-        FACT(composition_ok() == PASDRONGEL_DONE);
+        FACT(check_composition() == PASDRONGEL_DONE);
     }
 }
 
@@ -419,7 +440,10 @@ static uint8_t *cell(size_t i)
 static void unsound(void)
 {
     uint32_t raw[PASDRONGEL_WORD_LETTERS + 1] = {FOREIGN};
-    FACT(composition_ok() == PASDRONGEL_REFUSED_UNSOUND);
+    FACT(check_composition() == PASDRONGEL_REFUSED_UNSOUND);
+    FACT(of_state(pasdrongel_method) == PASDRONGEL_REFUSED_UNSOUND);
+    FACT(of_state(pasdrongel_mode) == PASDRONGEL_REFUSED_UNSOUND);
+    FACT(count_cells() == PASDRONGEL_REFUSED_UNSOUND);
     FACT(key(FOREIGN, 0) == PASDRONGEL_REFUSED_UNSOUND);
     FACT(key('a', PASDRONGEL_TEXT_ROOM) == PASDRONGEL_REFUSED_UNSOUND);
     FACT(literal(FOREIGN) == PASDRONGEL_REFUSED_UNSOUND);
@@ -439,7 +463,7 @@ static void unsound(void)
 static void unsound_at(size_t at, uint8_t value)
 {
     uint8_t old = state[at];
-    FACT(composition_ok() == PASDRONGEL_DONE);
+    FACT(check_composition() == PASDRONGEL_DONE);
     state[at] = value;
     unsound();
     state[at] = old;
@@ -483,7 +507,7 @@ static void soundness_facts(void)
     for (i = 19; i < STATE; i++) {            /* every cell past the count is blank, byte by byte */
         uint8_t old = state[i];
         state[i] = 1;
-        FACT(composition_ok() == PASDRONGEL_REFUSED_UNSOUND);
+        FACT(check_composition() == PASDRONGEL_REFUSED_UNSOUND);
         FACT(reset() == PASDRONGEL_REFUSED_UNSOUND);
         state[i] = old;
     }
@@ -493,7 +517,7 @@ static void soundness_facts(void)
         fresh(PASDRONGEL_VNI);
         state[2] = 3;
         cell(0)[0] = 'B', cell(1)[7] = 1, cell(2)[0] = 'c', cell(2)[6] = (uint8_t)tones[i];
-        FACT(composition_ok() == PASDRONGEL_DONE);
+        FACT(check_composition() == PASDRONGEL_DONE);
         FACT(text(3) == PASDRONGEL_DONE && count == 3 && letters[0] == 'B' && letters[1] == 0 && letters[2] == 'c');
     }
     for (i = 0; i < 7; i++)
@@ -503,7 +527,7 @@ static void soundness_facts(void)
             state[2] = 1;
             cell(0)[0] = (uint8_t)mark, cell(0)[1] = (uint8_t)(mark >> 8);
             cell(0)[4] = (uint8_t)(j * mark), cell(0)[5] = (uint8_t)(j * mark >> 8);
-            FACT(composition_ok() == PASDRONGEL_DONE && shows(marks[i]));
+            FACT(check_composition() == PASDRONGEL_DONE && shows(marks[i]));
         }
     /* new takes bytes of any content, but 259 of them and a method */
     memset(state, GUARD, sizeof state);
@@ -518,6 +542,32 @@ static void soundness_facts(void)
     FACT(start(PASDRONGEL_VNI) == PASDRONGEL_DONE && state[0] == 1 && shows(""));
     for (i = 1; i < STATE; i++)
         FACT(state[i] == 0);
+}
+
+/* Are these the numbers of the composition? */
+static int has(uint32_t method, uint32_t mode, size_t cells)
+{
+    return of_state(pasdrongel_method) == PASDRONGEL_DONE && number == method
+        && of_state(pasdrongel_mode) == PASDRONGEL_DONE && number == mode && count_cells() == PASDRONGEL_DONE && count == cells;
+}
+
+/* The numbers of a composition; that they refuse by 10, `unsound` asks. */
+static void number_facts(void)
+{
+    size_t i;
+    fresh(PASDRONGEL_TELEX);
+    FACT(has(PASDRONGEL_TELEX, PASDRONGEL_VIETNAMESE, 0));
+    FACT(types(PASDRONGEL_TELEX, "Vieetj", "Việt") && has(PASDRONGEL_TELEX, PASDRONGEL_VIETNAMESE, 4));
+    FACT(remove_last(PASDRONGEL_TEXT_ROOM) == PASDRONGEL_DONE && has(PASDRONGEL_TELEX, PASDRONGEL_VIETNAMESE, 3));
+    FACT(set_mode(PASDRONGEL_ENGLISH) == PASDRONGEL_DONE && has(PASDRONGEL_TELEX, PASDRONGEL_ENGLISH, 0));
+    FACT(set_method(PASDRONGEL_VNI) == PASDRONGEL_DONE && has(PASDRONGEL_VNI, PASDRONGEL_ENGLISH, 0));
+    for (i = 1; i <= PASDRONGEL_CELLS; i++)
+        FACT(literal('x') == PASDRONGEL_DONE && has(PASDRONGEL_VNI, PASDRONGEL_ENGLISH, i));
+    FACT(literal('x') == PASDRONGEL_REFUSED_FULL && has(PASDRONGEL_VNI, PASDRONGEL_ENGLISH, PASDRONGEL_CELLS));
+    FACT(set_mode(PASDRONGEL_VIETNAMESE) == PASDRONGEL_DONE && has(PASDRONGEL_VNI, PASDRONGEL_VIETNAMESE, PASDRONGEL_CELLS));
+    FACT(reset() == PASDRONGEL_DONE && has(PASDRONGEL_VNI, PASDRONGEL_VIETNAMESE, 0));
+    state[2] = 5;  /* cells of U+0000 */
+    FACT(has(PASDRONGEL_VNI, PASDRONGEL_VIETNAMESE, 5));
 }
 
 /* The paper's examples for the composer. */
@@ -562,6 +612,8 @@ static void key_facts(void)
     fresh(PASDRONGEL_TELEX);
     for (i = 0; i < 32; i++)
         FACT(key('b', PASDRONGEL_TEXT_ROOM) == PASDRONGEL_DONE && count == i + 1);
+    FACT(text(PASDRONGEL_TEXT_ROOM) == PASDRONGEL_DONE && count == PASDRONGEL_TEXT_ROOM); /* the room that always suffices */
+    FACT(text(PASDRONGEL_TEXT_ROOM - 1) == PASDRONGEL_REFUSED_SHORT);
     state[0] = 2;
     FACT(key(FOREIGN, 0) == PASDRONGEL_REFUSED_UNSOUND);
     state[0] = PASDRONGEL_TELEX;
@@ -665,6 +717,22 @@ static void undo_facts(void)
     FACT(types(PASDRONGEL_TELEX, "a", "a") && undo(0, "a") == PASDRONGEL_REFUSED_NO_UNDO);
     fresh(PASDRONGEL_TELEX);
     FACT(undo('s', "") == PASDRONGEL_REFUSED_NO_UNDO && shows(""));
+
+    /* as a host does it: raw is the keys before the trigger. The tone key must be the last of them, so that the trigger in raw
+     * would take back too much */
+    FACT(types(PASDRONGEL_TELEX, "a", "a") && undo('s', "a") == PASDRONGEL_REFUSED_NO_UNDO);
+    FACT(types(PASDRONGEL_TELEX, "asb", "áb") && undo('s', "asb") == PASDRONGEL_REFUSED_NO_UNDO && shows("áb"));
+    FACT(types(PASDRONGEL_TELEX, "asb", "áb") && undo('s', "asbs") == PASDRONGEL_DONE && shows("ab"));
+    /* the trigger is appended by the literal; by the key the tone comes back */
+    FACT(types(PASDRONGEL_TELEX, "as", "á") && undo('s', "as") == PASDRONGEL_DONE && number == PASDRONGEL_APPEND);
+    FACT(literal('s') == PASDRONGEL_DONE && shows("as"));
+    FACT(types(PASDRONGEL_TELEX, "as", "á") && undo('s', "as") == PASDRONGEL_DONE && number == PASDRONGEL_APPEND);
+    type("s");
+    FACT(wrote("á"));
+    /* the mode is not asked: in English mode a host does not call it */
+    FACT(types(PASDRONGEL_TELEX, "as", "á"));
+    state[1] = PASDRONGEL_ENGLISH;
+    FACT(undo('s', "as") == PASDRONGEL_DONE && shows("a"));
 
     /* the ladder: 10, 6, 1 (trigger, then raw string), 5 */
     for (i = 0; i < sizeof raw / sizeof *raw; i++)
@@ -813,20 +881,65 @@ static void list_facts(void)
     FACT(next_letters(word, length, PASDRONGEL_LISTED_ROOM) == PASDRONGEL_REFUSED_NO_WORD);
 }
 
+/* ---- NULL, which an empty buffer may be: each buffer of each call */
+
+#define TRIED(call, writes) (begin(), end_of_call(call, writes))
+
+static void null_facts(void)
+{
+    uint32_t a = 'a';
+    uint8_t byte = 'a';
+    FACT(types(PASDRONGEL_TELEX, "as", "á"));
+    FACT(TRIED(pasdrongel_new(NULL, 0, PASDRONGEL_TELEX), NOTHING) == PASDRONGEL_REFUSED_UNSOUND);
+    FACT(TRIED(pasdrongel_check_composition(NULL, 0), NOTHING) == PASDRONGEL_REFUSED_UNSOUND);
+    FACT(TRIED(pasdrongel_method(NULL, 0, told_yes()), NOTHING) == PASDRONGEL_REFUSED_UNSOUND);
+    FACT(TRIED(pasdrongel_mode(NULL, 0, told_yes()), NOTHING) == PASDRONGEL_REFUSED_UNSOUND);
+    FACT(TRIED(pasdrongel_count(NULL, 0, counted()), NOTHING) == PASDRONGEL_REFUSED_UNSOUND);
+    FACT(TRIED(pasdrongel_key(NULL, 0, 'a', room_for(9), 9, counted()), NOTHING) == PASDRONGEL_REFUSED_UNSOUND);
+    FACT(TRIED(pasdrongel_key(given(), STATE, 'b', NULL, 0, counted()), NOTHING) == PASDRONGEL_REFUSED_SHORT);
+    FACT(TRIED(pasdrongel_text(NULL, 0, room_for(9), 9, counted()), NOTHING) == PASDRONGEL_REFUSED_UNSOUND);
+    FACT(TRIED(pasdrongel_text(given(), STATE, NULL, 0, counted()), NOTHING) == PASDRONGEL_REFUSED_SHORT);
+    FACT(TRIED(pasdrongel_literal(NULL, 0, 'a'), NOTHING) == PASDRONGEL_REFUSED_UNSOUND);
+    FACT(TRIED(pasdrongel_undo(NULL, 0, 's', NULL, 0, told_yes()), NOTHING) == PASDRONGEL_REFUSED_UNSOUND);
+    FACT(TRIED(pasdrongel_undo(given(), STATE, 's', NULL, 0, told_yes()), NOTHING) == PASDRONGEL_REFUSED_NO_UNDO);
+    FACT(TRIED(pasdrongel_reset(NULL, 0), NOTHING) == PASDRONGEL_REFUSED_UNSOUND);
+    FACT(TRIED(pasdrongel_set_method(NULL, 0, PASDRONGEL_VNI), NOTHING) == PASDRONGEL_REFUSED_UNSOUND);
+    FACT(TRIED(pasdrongel_set_mode(NULL, 0, PASDRONGEL_ENGLISH), NOTHING) == PASDRONGEL_REFUSED_UNSOUND);
+    FACT(TRIED(pasdrongel_remove_last(NULL, 0, NULL, 0, counted()), NOTHING) == PASDRONGEL_REFUSED_UNSOUND);
+    FACT(TRIED(pasdrongel_remove_last(given(), STATE, NULL, 0, counted()), THE_STATE | A_COUNT) == PASDRONGEL_DONE && count == 0);
+    FACT(TRIED(pasdrongel_text(given(), STATE, NULL, 0, counted()), A_COUNT) == PASDRONGEL_DONE && count == 0);
+    FACT(TRIED(pasdrongel_cut(NULL, 0, counted(), lent(&the_second, NULL, sizeof(size_t))), TWO_PLACES) == PASDRONGEL_DONE);
+    FACT(count == 0 && place == 0);
+    FACT(TRIED(pasdrongel_verdict(NULL, 0, told_yes()), THE_NUMBER) == PASDRONGEL_DONE && number == 0);
+    FACT(TRIED(pasdrongel_word(0, NULL, 0, counted()), NOTHING) == PASDRONGEL_REFUSED_SHORT);
+    FACT(TRIED(pasdrongel_next_word(NULL, 0, room_for(9), 9, counted()), THE_LETTERS) == PASDRONGEL_DONE && wrote("a"));
+    FACT(TRIED(pasdrongel_next_word(&a, 1, NULL, 0, counted()), NOTHING) == PASDRONGEL_REFUSED_SHORT);
+    FACT(TRIED(pasdrongel_next_word(NULL, 0, NULL, 0, counted()), NOTHING) == PASDRONGEL_REFUSED_SHORT);
+    FACT(TRIED(pasdrongel_read_utf8(NULL, 0, room_for(9), 9, counted()), THE_LETTERS) == PASDRONGEL_DONE && count == 0);
+    FACT(TRIED(pasdrongel_read_utf8(NULL, 0, NULL, 0, counted()), A_COUNT) == PASDRONGEL_DONE && count == 0);
+    FACT(TRIED(pasdrongel_read_utf8(&byte, 1, NULL, 0, counted()), NOTHING) == PASDRONGEL_REFUSED_SHORT);
+    FACT(TRIED(pasdrongel_write_utf8(NULL, 0, lent(&the_output, NULL, 9), 9, counted()), THE_BYTES) == PASDRONGEL_DONE && count == 0);
+    FACT(TRIED(pasdrongel_write_utf8(NULL, 0, NULL, 0, counted()), A_COUNT) == PASDRONGEL_DONE && count == 0);
+    FACT(TRIED(pasdrongel_write_utf8(&a, 1, NULL, 0, counted()), NOTHING) == PASDRONGEL_REFUSED_SHORT);
+}
+
 /* ---- the library */
 
 static void library_facts(void)
 {
     uint32_t i, j;
     FACT(pasdrongel_version() == PASDRONGEL_VERSION);
+    FACT(pasdrongel_composition_bytes() == PASDRONGEL_COMPOSITION_BYTES);
     FACT(PASDRONGEL_VERSION_MINOR < 1000 && PASDRONGEL_VERSION_PATCH < 1000);
     for (i = 0; i <= PASDRONGEL_REFUSED_UNSOUND + 1; i++) {
         const char *text = pasdrongel_refusal_text(i), *at;
-        FACT(text != NULL && *text != '\0');
+        FACT(text != NULL && *text != '\0' && strlen(text) <= 63);
         for (at = text; *at != '\0'; at++)
             FACT(*at >= ' ' && *at <= '~');
         for (j = 0; j < i; j++)
             FACT(strcmp(text, pasdrongel_refusal_text(j)) != 0);
+        FACT(PASDRONGEL_REFUSAL(0x700u + i) == i && PASDRONGEL_REFUSAL(0xffffff00u | i) == i);
+        FACT(pasdrongel_refusal_text(0x700u + i) == text && pasdrongel_refusal_text(0xffffff00u | i) == text);
     }
     FACT(pasdrongel_refusal_text(0xffffffff) == pasdrongel_refusal_text(PASDRONGEL_REFUSED_UNSOUND + 1));
 }
@@ -840,6 +953,7 @@ int main(void)
     letters_facts();
     utf8_facts();
     soundness_facts();
+    number_facts();
     example_facts();
     key_facts();
     change_facts();
@@ -847,6 +961,7 @@ int main(void)
     method_facts();
     speller_facts();
     list_facts();
+    null_facts();
     printf("%lu facts about %lu calls, %lu do not hold\n", facts, calls, failures);
     return failures != 0;
 }

@@ -5,13 +5,20 @@
 #include <stdlib.h>
 
 #define STATE PASDRONGEL_COMPOSITION_BYTES
-#define WRAP(name, ...) uint32_t __real_pasdrongel_##name(__VA_ARGS__); uint32_t __wrap_pasdrongel_##name(__VA_ARGS__)
+#define WRAPPED(result, name, ...) result __real_pasdrongel_##name(__VA_ARGS__); result __wrap_pasdrongel_##name(__VA_ARGS__)
+#define WRAP(name, ...) WRAPPED(uint32_t, name, __VA_ARGS__)
+#define WRAP_SIZE(name, ...) WRAPPED(size_t, name, __VA_ARGS__)
 
 WRAP(key, uint8_t *state, size_t size, uint32_t key, uint32_t *out, size_t room, size_t *count);
 WRAP(literal, uint8_t *state, size_t size, uint32_t letter);
 WRAP(remove_last, uint8_t *state, size_t size, uint32_t *out, size_t room, size_t *count);
 WRAP(text, const uint8_t *state, size_t size, uint32_t *out, size_t room, size_t *count);
-WRAP(composition_ok, const uint8_t *state, size_t size);
+WRAP(check_composition, const uint8_t *state, size_t size);
+WRAP_SIZE(composition_bytes, void);
+WRAP(method, const uint8_t *state, size_t size, uint32_t *method);
+WRAP(mode, const uint8_t *state, size_t size, uint32_t *mode);
+WRAP(count, const uint8_t *state, size_t size, size_t *count);
+WRAP(is_separator, uint32_t letter, uint32_t *yes);
 WRAP(read_utf8, const uint8_t *bytes, size_t length, uint32_t *letters, size_t room, size_t *count);
 
 static int fault(int n)
@@ -62,16 +69,18 @@ uint32_t __wrap_pasdrongel_text(const uint8_t *state, size_t size, uint32_t *out
         return PASDRONGEL_REFUSED_SHORT; /* goes by what stood in the output */
     if (fault(10) && room == 0)
         return PASDRONGEL_REFUSED_SHORT; /* there may be nothing to write */
+    if (fault(24) && out == NULL)
+        return PASDRONGEL_REFUSED_SHORT; /* asks where an empty output stands */
     return __real_pasdrongel_text(state, size, out, room, count);
 }
 
-uint32_t __wrap_pasdrongel_composition_ok(const uint8_t *state, size_t size)
+uint32_t __wrap_pasdrongel_check_composition(const uint8_t *state, size_t size)
 {
     if (fault(11) && state[size] == 7)
         return PASDRONGEL_REFUSED_UNSOUND; /* reads past what is lent */
     if (fault(12) && size == STATE && state[2] == 33)
         return PASDRONGEL_DONE;
-    return __real_pasdrongel_composition_ok(state, size);
+    return __real_pasdrongel_check_composition(state, size);
 }
 
 uint32_t __wrap_pasdrongel_read_utf8(const uint8_t *bytes, size_t length, uint32_t *letters, size_t room, size_t *count)
@@ -82,4 +91,52 @@ uint32_t __wrap_pasdrongel_read_utf8(const uint8_t *bytes, size_t length, uint32
     if (fault(14) && refusal == PASDRONGEL_REFUSED_LONG && bytes[length - 1] == bytes[-1])
         return PASDRONGEL_REFUSED_MALFORMED; /* reads before what is lent */
     return refusal;
+}
+
+uint32_t __wrap_pasdrongel_method(const uint8_t *state, size_t size, uint32_t *method)
+{
+    uint32_t refusal = __real_pasdrongel_method(state, size, method);
+    if (fault(15) && refusal == PASDRONGEL_DONE)
+        *method = PASDRONGEL_TELEX; /* whatever it is */
+    if (fault(16) && refusal != PASDRONGEL_DONE)
+        *method = PASDRONGEL_TELEX; /* a refusal that answers */
+    return refusal;
+}
+
+uint32_t __wrap_pasdrongel_mode(const uint8_t *state, size_t size, uint32_t *mode)
+{
+    uint32_t refusal = __real_pasdrongel_mode(state, size, mode);
+    if (fault(17) && refusal == PASDRONGEL_DONE)
+        *mode = 1 - *mode;
+    if (fault(18) && size == STATE && state[0] <= 1 && state[1] <= 1 && state[2] <= 32) {
+        *mode = state[1]; /* the cells are not tested */
+        return PASDRONGEL_DONE;
+    }
+    return refusal;
+}
+
+uint32_t __wrap_pasdrongel_count(const uint8_t *state, size_t size, size_t *count)
+{
+    size_t before = *count;
+    uint32_t refusal = __real_pasdrongel_count(state, size, count);
+    if (fault(19) && refusal == PASDRONGEL_DONE && *count == PASDRONGEL_CELLS)
+        *count = PASDRONGEL_CELLS - 1; /* the last cell is not counted */
+    if (fault(20) && refusal == PASDRONGEL_DONE)
+        *count |= before & ~(size_t)UINT32_MAX; /* the low half of the number is written */
+    return refusal;
+}
+
+uint32_t __wrap_pasdrongel_is_separator(uint32_t letter, uint32_t *yes)
+{
+    uint32_t refusal = __real_pasdrongel_is_separator(letter, yes);
+    if (fault(21) && letter == ':')
+        *yes = 0;
+    if (fault(22) && refusal != PASDRONGEL_DONE)
+        *yes = 0; /* a refusal that answers */
+    return refusal;
+}
+
+size_t __wrap_pasdrongel_composition_bytes(void)
+{
+    return __real_pasdrongel_composition_bytes() - (fault(23) ? 1 : 0);
 }

@@ -6,11 +6,16 @@
  * - It returns 0 or one of its own refusals, and by 10 exactly where the bytes are no sound composition.
  * - Nothing outside of what it is lent is read or written (lent.h), and nothing that is lent to be read is written.
  * - After a refusal nothing has changed. After an answer: the answer alone, at the start of the output.
- * - What was a sound composition is one after the call, by a test of the bytes that is written here.
+ * - What was a sound composition is one after the call, by a test of the bytes that is written here. The method, the mode and
+ *   the count are those bytes, and a separator is one of twelve letters.
  * - The same call on other memory, with other content in its outputs, does the same.
+ * - It makes no difference whether an empty buffer is NULL.
  * - A refusal by 3 is one for want of room: with enough of it the answer is longer than the room was. And an answer with
  *   room to spare is refused by 3 where the room is one less than the answer.
- * At the end every refusal of every call must have been met, so that the run says something of each. */
+ * At the end every refusal of every call must have been met, and each of its buffers as NULL, so that the run says something
+ * of each.
+ *
+ * With PAINTED it also makes each call on a painted stack, and says how much of it the deepest has touched. */
 #include "lent.h"
 #include "pasdrongel.h"
 
@@ -19,6 +24,7 @@
 #define MOST_INPUT 300
 #define MOST_ROOM 300
 #define MOST_SHOWN 20
+#define REFUSALS 11
 
 /* ---- random numbers: xorshift64* */
 
@@ -81,6 +87,7 @@ CALL(lower, g->a, p->first)
 CALL(upper, g->a, p->first)
 CALL(is_capital, g->a, p->first)
 CALL(is_white_space, g->a, p->first)
+CALL(is_separator, g->a, p->first)
 CALL(tone_on, g->a, g->b, p->first)
 CALL(tone_off, g->a, p->first)
 CALL(is_composer_vowel, g->a, p->first)
@@ -88,7 +95,10 @@ CALL(is_speller_vowel, g->a, p->first)
 CALL(read_utf8, WITH_INPUT, WITH_OUTPUT)
 CALL(write_utf8, WITH_INPUT, WITH_OUTPUT)
 CALL(new, WITH_STATE, g->a)
-CALL(composition_ok, WITH_STATE)
+CALL(check_composition, WITH_STATE)
+CALL(method, WITH_STATE, p->first)
+CALL(mode, WITH_STATE, p->first)
+CALL(count, WITH_STATE, p->first)
 CALL(key, WITH_STATE, g->a, WITH_OUTPUT)
 CALL(literal, WITH_STATE, g->a)
 CALL(text, WITH_STATE, WITH_OUTPUT)
@@ -105,6 +115,13 @@ CALL(verdict, WITH_INPUT, p->first)
 CALL(total, p->first)
 CALL(word, g->a, WITH_OUTPUT)
 CALL(next_word, WITH_INPUT, WITH_OUTPUT)
+
+/* This one returns no refusal: another number than the header's is given as one that no call has. */
+static uint32_t call_composition_bytes(const struct given *g, const struct places *p)
+{
+    (void)g, (void)p;
+    return pasdrongel_composition_bytes() == STATE ? PASDRONGEL_DONE : REFUSALS;
+}
 
 /* What `a` is for; `b` and `c` are letters. */
 enum numbers { NO_NUMBER, LETTER, KEY, SETTING, PLACE };
@@ -128,6 +145,7 @@ static const struct kind {
     {"upper", call_upper, R(1), NO_STATE, LETTER, 0, 0, 4, 0, 1},
     {"is_capital", call_is_capital, R(1), NO_STATE, LETTER, 0, 0, 4, 0, 1},
     {"is_white_space", call_is_white_space, R(1), NO_STATE, LETTER, 0, 0, 4, 0, 1},
+    {"is_separator", call_is_separator, R(1), NO_STATE, LETTER, 0, 0, 4, 0, 1},
     {"tone_on", call_tone_on, R(1), NO_STATE, LETTER, 0, 0, 4, 0, 1},
     {"tone_off", call_tone_off, R(1), NO_STATE, LETTER, 0, 0, 4, 0, 1},
     {"is_composer_vowel", call_is_composer_vowel, R(1), NO_STATE, LETTER, 0, 0, 4, 0, 1},
@@ -135,7 +153,11 @@ static const struct kind {
     {"read_utf8", call_read_utf8, R(6) | R(8) | R(1) | R(3), NO_STATE, NO_NUMBER, 1, 4, sizeof(size_t), 0, 8},
     {"write_utf8", call_write_utf8, R(6) | R(1) | R(3), NO_STATE, NO_NUMBER, 4, 1, sizeof(size_t), 0, 6},
     {"new", call_new, R(10), MADE, SETTING, 0, 0, 0, 0, 1},
-    {"composition_ok", call_composition_ok, R(10), READ, NO_NUMBER, 0, 0, 0, 0, 12},
+    {"composition_bytes", call_composition_bytes, 0, NO_STATE, NO_NUMBER, 0, 0, 0, 0, 1},
+    {"check_composition", call_check_composition, R(10), READ, NO_NUMBER, 0, 0, 0, 0, 12},
+    {"method", call_method, R(10), READ, NO_NUMBER, 0, 0, 4, 0, 4},
+    {"mode", call_mode, R(10), READ, NO_NUMBER, 0, 0, 4, 0, 4},
+    {"count", call_count, R(10), READ, NO_NUMBER, 0, 0, sizeof(size_t), 0, 4},
     {"key", call_key, R(10) | R(1) | R(2) | R(3), CHANGED, KEY, 0, 4, sizeof(size_t), 0, 120},
     {"literal", call_literal, R(10) | R(1) | R(2), CHANGED, KEY, 0, 0, 0, 0, 12},
     {"text", call_text, R(10) | R(3), READ, NO_NUMBER, 0, 4, sizeof(size_t), 0, 8},
@@ -154,9 +176,11 @@ static const struct kind {
     {"next_word", call_next_word, R(6) | R(1) | R(7) | R(3), NO_STATE, NO_NUMBER, 4, 4, sizeof(size_t), 0, 8},
 };
 #define KINDS (sizeof kinds / sizeof *kinds)
-#define REFUSALS 11
 
-static unsigned long met[KINDS][REFUSALS], calls, faults;
+/* The buffers of a call, in the order of `struct places`. */
+enum buffers { STATE_BUFFER, INPUT_BUFFER, OUTPUT_BUFFER, BUFFERS };
+
+static unsigned long met[KINDS][REFUSALS], nulls[KINDS][BUFFERS], calls, faults;
 
 static void fault(const struct kind *kind, const char *what)
 {
@@ -168,7 +192,7 @@ static void fault(const struct kind *kind, const char *what)
 
 static int is_letter(uint32_t x)
 {
-    return pasdrongel_check_letter(x) == PASDRONGEL_DONE;
+    return PASDRONGEL_REFUSAL(pasdrongel_check_letter(x)) == PASDRONGEL_DONE;
 }
 
 static int is_cell(const uint8_t *cell)
@@ -208,6 +232,69 @@ struct left {
     uint8_t output[4 * MOST_ROOM], first[8], second[8];
 };
 
+#ifdef PAINTED
+#include "painted.h"
+
+static const struct kind *ran;
+static const struct given *ran_with;
+static const struct places *ran_on;
+static uint32_t ran_to;
+static size_t deepest[KINDS], nothing;
+
+static void run(void)
+{
+    ran_to = ran->call(ran_with, ran_on);
+}
+
+static uint32_t call_nothing(const struct given *g, const struct places *p)
+{
+    (void)g, (void)p;
+    return PASDRONGEL_DONE;
+}
+
+/* What a call takes is what it touches more than an empty one, which has touched its return address. */
+static uint32_t made(const struct kind *kind, const struct given *g, const struct places *p)
+{
+    static const struct kind empty = {"nothing", call_nothing, 0, NO_STATE, NO_NUMBER, 0, 0, 0, 0, 0};
+    size_t touched;
+    ran_with = g, ran_on = p;
+    if (nothing == 0)
+        ran = &empty, nothing = touched_by(run) - sizeof(void *);
+    ran = kind;
+    touched = touched_by(run) - nothing;
+    if (touched > deepest[kind - kinds])
+        deepest[kind - kinds] = touched;
+    return ran_to;
+}
+
+static void say_stack(void)
+{
+    size_t i;
+    for (i = 0; i < KINDS; i++)
+        printf("stack %s %lu\n", kinds[i].name, (unsigned long)deepest[i]);
+}
+#else
+static uint32_t made(const struct kind *kind, const struct given *g, const struct places *p)
+{
+    return kind->call(g, p);
+}
+
+static void say_stack(void)
+{
+}
+#endif
+
+/* Lends a buffer; at the low end an empty one is NULL. */
+static void *lend_buffer(const struct kind *kind, enum buffers which, struct lent *lent, const void *content, size_t size,
+                         enum end end, unsigned char guard)
+{
+    void *at = lend(lent, content, size, end, guard);
+    if (size > 0 || end == HIGH)
+        return at;
+    nulls[kind - kinds][which]++;
+    return NULL;
+}
+
 static void make_call(const struct kind *kind, const struct given *g, enum end end, unsigned char guard, struct left *left)
 {
     uint8_t narrow[MOST_INPUT], before[4 * MOST_ROOM];
@@ -217,16 +304,17 @@ static void make_call(const struct kind *kind, const struct given *g, enum end e
         narrow[i] = (uint8_t)g->input[i];
     for (i = 0; i < sizeof before; i++)
         before[i] = (uint8_t)random_word();
-    p.state = lend(&the_state, g->state, kind->use == NO_STATE ? 0 : g->state_size, end, guard);
+    p.state = lend_buffer(kind, STATE_BUFFER, &the_state, g->state, kind->use == NO_STATE ? 0 : g->state_size, end, guard);
     p.state_size = the_state.size;
-    p.input = lend(&the_input, kind->input == 1 ? (const void *)narrow : g->input, kind->input * g->length, end, guard);
+    p.input = lend_buffer(kind, INPUT_BUFFER, &the_input, kind->input == 1 ? (const void *)narrow : g->input,
+                          kind->input * g->length, end, guard);
     p.length = g->length;
-    p.output = lend(&the_output, before, kind->output * g->room, end, guard);
+    p.output = lend_buffer(kind, OUTPUT_BUFFER, &the_output, before, kind->output * g->room, end, guard);
     p.room = g->room;
     p.first = lend(&the_first, before, kind->first, end, guard);
     p.second = lend(&the_second, before, kind->second, end, guard);
     calls++;
-    left->refusal = kind->call(g, &p);
+    left->refusal = PASDRONGEL_REFUSAL(made(kind, g, &p));
     left->count = 0;
     if (left->refusal == PASDRONGEL_DONE && kind->output != 0)
         memcpy(&left->count, p.first, sizeof left->count);
@@ -234,8 +322,8 @@ static void make_call(const struct kind *kind, const struct given *g, enum end e
         fault(kind, "it counts more than there is room for");
         left->count = 0;
     }
-    memcpy(left->state, p.state, the_state.size);
-    memcpy(left->output, p.output, left->count * kind->output);
+    memcpy(left->state, the_state.at, the_state.size);
+    memcpy(left->output, the_output.at, left->count * kind->output);
     memset(left->first, 0, sizeof left->first);
     memset(left->second, 0, sizeof left->second);
     if (left->refusal == PASDRONGEL_DONE) {
@@ -284,6 +372,24 @@ static void hold_answer(const struct kind *kind, const struct given *g, const st
     }
 }
 
+/* The numbers that are known here too. */
+static void hold_number(const struct kind *kind, const struct given *g, const struct left *left)
+{
+    static const char separators[] = "\t\n\v\f\r .,!?;:";
+    uint32_t number;
+    size_t cells;
+    memcpy(&number, left->first, sizeof number);
+    memcpy(&cells, left->first, sizeof cells);
+    if (left->refusal != PASDRONGEL_DONE)
+        return;
+    if ((kind->call == call_method && number != g->state[0]) || (kind->call == call_mode && number != g->state[1])
+        || (kind->call == call_count && cells != g->state[2]))
+        fault(kind, "it gives another number than the bytes have");
+    if (kind->call == call_is_separator
+        && number != (g->a < 0x80 && memchr(separators, (int)g->a, sizeof separators - 1) != NULL))
+        fault(kind, "it takes another letter for a separator");
+}
+
 static int same(const struct kind *kind, const struct given *g, const struct left *one, const struct left *other)
 {
     return one->refusal == other->refusal && one->count == other->count
@@ -320,6 +426,7 @@ static void hold(const struct kind *kind, const struct given *g, struct left *le
     make_call(kind, g, HIGH, 0xa5, left);
     hold_memory(kind, left);
     hold_answer(kind, g, left);
+    hold_number(kind, g, left);
     make_call(kind, g, LOW, 0x5a, &again);
     hold_memory(kind, &again);
     if (!same(kind, g, left, &again))
@@ -430,7 +537,9 @@ static void some_state(struct given *g, uint32_t rarity)
     memset(g->state, 0, sizeof g->state);
     memcpy(g->state, composition, STATE);
     g->state_size = STATE;
-    if (one_in(3 * rarity))
+    if (one_in(24))
+        g->state_size = 0;
+    else if (one_in(3 * rarity))
         g->state_size = one_in(2) ? STATE - 1 + 2 * below(2) : below(MOST_STATE + 1);
     if (one_in(rarity))
         g->state[one_in(3) ? below(3) : below(one_in(4) ? STATE : in_use)] =
@@ -491,6 +600,14 @@ static void prepare(const struct kind *kind, struct given *g)
         to_undo(g);
 }
 
+static const struct kind *kind_of(caller *call)
+{
+    const struct kind *kind = kinds;
+    while (kind->call != call)
+        kind++;
+    return kind;
+}
+
 static const struct kind *some_kind(void)
 {
     unsigned total = 0, at;
@@ -511,8 +628,8 @@ static void hold_text(const struct kind *kind, const struct given *g, const stru
     if (left->refusal != PASDRONGEL_DONE || kind->output != 4 || kind->use == NO_STATE || (kind->numbers == KEY && left->state[1] == 1))
         return;
     calls++;
-    if (pasdrongel_text(left->state, g->state_size, text, 32, &count) != PASDRONGEL_DONE || count != left->count
-        || memcmp(text, left->output, count * sizeof *text) != 0)
+    if (PASDRONGEL_REFUSAL(pasdrongel_text(left->state, g->state_size, text, 32, &count)) != PASDRONGEL_DONE
+        || count != left->count || memcmp(text, left->output, count * sizeof *text) != 0)
         fault(kind, "it does not write the text of what it leaves");
 }
 
@@ -523,8 +640,8 @@ static void session(void)
     unsigned length = 1 + below(120);
     typed_length = 0;
     calls++;
-    if (pasdrongel_new(composition, STATE, below(2)) != PASDRONGEL_DONE)
-        fault(&kinds[11], "there is no new composition");
+    if (PASDRONGEL_REFUSAL(pasdrongel_new(composition, STATE, below(2))) != PASDRONGEL_DONE)
+        fault(kind_of(call_new), "there is no new composition");
     while (length-- > 0) {
         const struct kind *kind = some_kind();
         prepare(kind, &g);
@@ -558,6 +675,9 @@ static void count_refusals(void)
             else if (r == 0 || kinds[i].refusals & R(r))
                 fault(&kinds[i], "the run has not met every answer that it has");
         }
+        if ((kinds[i].use != NO_STATE && nulls[i][STATE_BUFFER] == 0) || (kinds[i].input != 0 && nulls[i][INPUT_BUFFER] == 0)
+            || (kinds[i].output != 0 && nulls[i][OUTPUT_BUFFER] == 0))
+            fault(&kinds[i], "the run has not met NULL for each of its buffers");
         printf("\n");
     }
 }
@@ -574,6 +694,7 @@ int main(void)
     while (sessions-- > 0 && faults < MOST_SHOWN)
         session();
     count_refusals();
+    say_stack();
     printf("seed %lu\n%lu calls, %lu faults\n", seed, calls, faults);
     return faults != 0;
 }

@@ -43,6 +43,7 @@ static const struct {
     {"tone_off", pasdrongel_tone_off},
     {"is_capital", pasdrongel_is_capital},
     {"is_white_space", pasdrongel_is_white_space},
+    {"is_separator", pasdrongel_is_separator},
     {"is_composer_vowel", pasdrongel_is_composer_vowel},
     {"is_speller_vowel", pasdrongel_is_speller_vowel},
 };
@@ -215,7 +216,7 @@ static int replay_read(const struct list *input, size_t room, const struct answe
     for (i = 0; i < input->length; i++)
         bytes[i] = (uint8_t)input->items[i];
     lend_output();
-    refusal = pasdrongel_read_utf8(bytes, input->length, output + MARGIN, room, &count);
+    refusal = PASDRONGEL_REFUSAL(pasdrongel_read_utf8(bytes, input->length, output + MARGIN, room, &count));
     return refusal == answer->refusal && count == count_after(answer) && output_has(&answer->list);
 }
 
@@ -226,7 +227,7 @@ static int replay_write(const struct list *input, size_t room, const struct answ
     uint32_t refusal;
     count = GUARD;
     memset(bytes, GUARD_BYTE, sizeof bytes);
-    refusal = pasdrongel_write_utf8(input->items, input->length, bytes + MARGIN, room, &count);
+    refusal = PASDRONGEL_REFUSAL(pasdrongel_write_utf8(input->items, input->length, bytes + MARGIN, room, &count));
     for (i = 0; i < room + 2 * MARGIN; i++)
         if (bytes[i] != (i >= MARGIN && i - MARGIN < answer->list.length ? answer->list.items[i - MARGIN] : GUARD_BYTE))
             return 0;
@@ -252,7 +253,7 @@ static int replay_cut(void)
     const char *answer;
     expect("[");
     read_bracketed(&word);
-    refusal = pasdrongel_cut(word.items, word.length, &onset, &vowels);
+    refusal = PASDRONGEL_REFUSAL(pasdrongel_cut(word.items, word.length, &onset, &vowels));
     expect("=");
     answer = next_word();
     if (strcmp(answer, "refused") == 0)
@@ -267,7 +268,7 @@ static int replay_verdict(void)
     uint32_t yes = GUARD, refusal;
     expect("[");
     read_bracketed(&word);
-    refusal = pasdrongel_verdict(word.items, word.length, &yes);
+    refusal = PASDRONGEL_REFUSAL(pasdrongel_verdict(word.items, word.length, &yes));
     expect("=");
     read_answer(&answer);
     return refusal == answer.refusal && yes == number_after(&answer);
@@ -284,18 +285,18 @@ static int replay_method(void)
     expect("=");
     read_answer(&answer);
     if (letters.length == 2)
-        refusal = pasdrongel_mark_for(method, letters.items[0], letters.items[1], &out);
+        refusal = PASDRONGEL_REFUSAL(pasdrongel_mark_for(method, letters.items[0], letters.items[1], &out));
     else if (called[3] == 't')
-        refusal = pasdrongel_is_tone_key(method, letters.items[0], &out);
+        refusal = PASDRONGEL_REFUSAL(pasdrongel_is_tone_key(method, letters.items[0], &out));
     else
-        refusal = pasdrongel_is_horn_key(method, letters.items[0], &out);
+        refusal = PASDRONGEL_REFUSAL(pasdrongel_is_horn_key(method, letters.items[0], &out));
     return refusal == answer.refusal && out == number_after(&answer);
 }
 
 static int replay_total(void)
 {
     size_t total = GUARD;
-    uint32_t refusal = pasdrongel_total(&total);
+    uint32_t refusal = PASDRONGEL_REFUSAL(pasdrongel_total(&total));
     expect("=");
     return refusal == 0 && total == read_number();
 }
@@ -315,7 +316,7 @@ static int replay_word(void)
     expect("room");
     room = read_number();
     lend_output();
-    return letters_answered(pasdrongel_word(number, output + MARGIN, room, &count));
+    return letters_answered(PASDRONGEL_REFUSAL(pasdrongel_word(number, output + MARGIN, room, &count)));
 }
 
 /* `next_word room 8 : [ az ] = [ b ]` */
@@ -326,14 +327,17 @@ static int replay_next_word(void)
     expect("[");
     read_bracketed(&word);
     lend_output();
-    return letters_answered(pasdrongel_next_word(word.items, word.length, output + MARGIN, room, &count));
+    return letters_answered(
+        PASDRONGEL_REFUSAL(pasdrongel_next_word(word.items, word.length, output + MARGIN, room, &count)));
 }
 
 /* A session: the bytes of its composition, with guarded ones around, and what the last call left. */
 static struct {
     uint8_t bytes[MOST + 2 * MARGIN], before[MOST + 2 * MARGIN];
     size_t length, room;
-    uint32_t refusal, behaviour;
+    const char *call; /* the last one */
+    uint32_t refusal, number;
+    size_t cells;
 } session;
 
 /* The bytes of a cell: `a`, `U+0020,s`, `\303\242,marked,s,capital`. */
@@ -392,10 +396,12 @@ static void read_composition(uint8_t *bytes, const char *stop)
     }
 }
 /* Lends everything anew, and keeps the composition as it is before the call. */
-static void lend(void)
+static void lend(const char *call)
 {
     lend_output();
-    session.behaviour = GUARD;
+    session.call = call;
+    session.number = GUARD;
+    session.cells = GUARD;
     memcpy(session.before, session.bytes, sizeof session.before);
 }
 
@@ -403,9 +409,9 @@ static void press(const struct list *keys)
 {
     size_t i;
     for (i = 0; i < keys->length; i++) {
-        lend();
-        session.refusal = pasdrongel_key(
-            session.bytes + MARGIN, session.length, keys->items[i], output + MARGIN, session.room, &count);
+        lend("key");
+        session.refusal = PASDRONGEL_REFUSAL(pasdrongel_key(
+            session.bytes + MARGIN, session.length, keys->items[i], output + MARGIN, session.room, &count));
     }
 }
 
@@ -425,7 +431,7 @@ static uint32_t undo(void)
     uint32_t trigger = read_letter();
     expect("[");
     read_bracketed(&raw);
-    return pasdrongel_undo(session.bytes + MARGIN, session.length, trigger, raw.items, raw.length, &session.behaviour);
+    return pasdrongel_undo(session.bytes + MARGIN, session.length, trigger, raw.items, raw.length, &session.number);
 }
 
 /* A call of a session by its name; the keys are no call of their own. */
@@ -433,7 +439,7 @@ static uint32_t session_call(const char *name)
 {
     uint8_t *state = session.bytes + MARGIN;
     size_t length = session.length;
-    lend();
+    lend(name);
     if (strcmp(name, "telex") == 0 || strcmp(name, "vni") == 0)
         return pasdrongel_new(state, length, name[0] == 'v');
     if (strcmp(name, "new") == 0)
@@ -452,8 +458,14 @@ static uint32_t session_call(const char *name)
         return pasdrongel_set_mode(state, length, (uint32_t)read_number());
     if (strcmp(name, "undo") == 0)
         return undo();
-    if (strcmp(name, "composition_ok") == 0)
-        return pasdrongel_composition_ok(state, length);
+    if (strcmp(name, "check_composition") == 0)
+        return pasdrongel_check_composition(state, length);
+    if (strcmp(name, "method") == 0)
+        return pasdrongel_method(state, length, &session.number);
+    if (strcmp(name, "mode") == 0)
+        return pasdrongel_mode(state, length, &session.number);
+    if (strcmp(name, "count") == 0)
+        return pasdrongel_count(state, length, &session.cells);
     bad_line("this call is not known");
     return 0;
 }
@@ -480,7 +492,7 @@ static void session_step(const char *word)
         memset(state + length, GUARD_BYTE, MOST + MARGIN - length);
         session.length = length;
     } else {
-        session.refusal = session_call(word);
+        session.refusal = PASDRONGEL_REFUSAL(session_call(word));
     }
 }
 
@@ -488,8 +500,8 @@ static void session_step(const char *word)
 static int replay_session(void)
 {
     struct list text;
-    size_t expected_count = GUARD;
-    uint32_t expected_refusal = 0, expected_behaviour = GUARD;
+    size_t expected_count = GUARD, expected_cells = GUARD;
+    uint32_t expected_refusal = 0, expected_number = GUARD;
     const char *word;
     memset(session.bytes, GUARD_BYTE, sizeof session.bytes);
     session.length = COMPOSITION_BYTES;
@@ -505,15 +517,19 @@ static int replay_session(void)
             read_bracketed(&text);
             expected_count = text.length;
         } else if (strcmp(word, "append") == 0 || strcmp(word, "consume") == 0) {
-            expected_behaviour = word[0] == 'c';
+            expected_number = word[0] == 'c';
+        } else if (word[0] >= '0' && word[0] <= '9' && strcmp(session.call, "count") == 0) {
+            expected_cells = strtoul(word, NULL, 10);
+        } else if (word[0] >= '0' && word[0] <= '9') {
+            expected_number = (uint32_t)strtoul(word, NULL, 10);
         } else if (strcmp(word, "done") != 0) {
             bad_line("this answer is not known");
         }
         expect("/");
         read_composition(session.before + MARGIN, NULL);
     }
-    return session.refusal == expected_refusal && session.behaviour == expected_behaviour && count == expected_count
-        && output_has(&text) && memcmp(session.bytes, session.before, sizeof session.bytes) == 0;
+    return session.refusal == expected_refusal && session.number == expected_number && session.cells == expected_cells
+        && count == expected_count && output_has(&text) && memcmp(session.bytes, session.before, sizeof session.bytes) == 0;
 }
 
 static const struct {
@@ -551,12 +567,14 @@ static int replay(char *line)
     read_list(&input, "=");
     read_answer(&answer);
     if (strcmp(name, "check_letter") == 0 && input.length == 1)
-        return pasdrongel_check_letter(input.items[0]) == answer.refusal;
+        return PASDRONGEL_REFUSAL(pasdrongel_check_letter(input.items[0])) == answer.refusal;
     if (strcmp(name, "tone_on") == 0 && input.length == 2)
-        return pasdrongel_tone_on(input.items[0], input.items[1], &out) == answer.refusal && out == number_after(&answer);
+        return PASDRONGEL_REFUSAL(pasdrongel_tone_on(input.items[0], input.items[1], &out)) == answer.refusal
+            && out == number_after(&answer);
     for (i = 0; i < sizeof one_letter_calls / sizeof *one_letter_calls; i++)
         if (strcmp(name, one_letter_calls[i].name) == 0 && input.length == 1)
-            return one_letter_calls[i].call(input.items[0], &out) == answer.refusal && out == number_after(&answer);
+            return PASDRONGEL_REFUSAL(one_letter_calls[i].call(input.items[0], &out)) == answer.refusal
+                && out == number_after(&answer);
     bad_line("this call is not known");
     return 0;
 }

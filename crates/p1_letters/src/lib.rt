@@ -5,7 +5,7 @@ ghost use mathlib.Core.Path.{_≡_};
 ghost use mathlib.Core.List.{[], _∷_};
 ghost use lib.Dec.{eqb};
 ghost use Rattle.p0_choice.specs.Choice.{among};
-ghost use Rattle.p1_letters.specs.Alphabet.{smallBy32, smallBy1, smallNext, isCapital, inAlphabet, allLetters, isWhiteSpace, asciiLower, asciiUpper, lower as lowerOf, upper as upperOf};
+ghost use Rattle.p1_letters.specs.Alphabet.{smallBy32, smallBy1, smallNext, isCapital, inAlphabet, allLetters, isWhiteSpace, isSeparator, asciiLower, asciiUpper, lower as lowerOf, upper as upperOf};
 ghost use Rattle.p1_letters.specs.Tones.{toneColumn, toneFrom, toneOn, toneOff};
 ghost use Rattle.p1_letters.specs.Vowels.{vowels, isVowel, isSpellingVowel};
 
@@ -129,6 +129,20 @@ pub fn is_white_space(x: u32) -> bool
         return false;
     }
     x <= 0x0d
+}
+
+// White space or . , ! ? ; : with : and ; in two arms, as they are neighbours.
+pub fn is_separator(x: u32) -> bool
+    ensures { λ r. ⌜ r ≡ isSeparator x ⌝ }
+{
+    if is_white_space(x) {
+        return true;
+    }
+    match x {
+        33 | 44 | 46 | 58 | 63 => true,
+        59 => true,
+        _ => false,
+    }
 }
 
 pub fn ascii_lower(x: u32) -> u32

@@ -7,9 +7,8 @@ use native.Mathlib.Omega.{arith}
 use native.Mathlib.Numerals.{add-one}
 use lib.ListN.{length, getD, drop, length-drop, drop-of-length-le}
 use lib.Seq.{drop-cons}
-use Rattle.p0_choice.specs.Choice.{pick, among}
-use Rattle.p0_choice.specs.Text.{word}
-use Rattle.p1_letters.specs.Alphabet.{isWhiteSpace}
+use Rattle.p0_choice.specs.Choice.{pick}
+use Rattle.p1_letters.specs.Alphabet.{isSeparator}
 use Rattle.p3_cells.specs.Cells.{blank}
 use Rattle.p3_cells.specs.Text.{letterOf}
 use Rattle.p3_cells.specs.declared.Cell.{Cell}
@@ -18,13 +17,9 @@ use Rattle.p3_row.proofs.Row.{row-length, row-at, row-turn}
 use Rattle.p3_place.specs.Place.{separates, anySeparates, lastSyllable, syllableStart}
 
 -- ---- a separator
-pub separates-space : (x : ℕ) (v : Bool) → v ≡ isWhiteSpace x → v ≡ true → true ≡ separates (bare x)
+separates-bare : (x : ℕ) → isSeparator x ≡ separates (bare x)
 unfolding separates letterOf
-separates-space x v e t = rw (← e, t) refl
-
-pub separates-mark : (x : ℕ) (v r : Bool) → v ≡ isWhiteSpace x → v ≡ false → r ≡ among x (word ".,!?;:") → r ≡ separates (bare x)
-unfolding separates letterOf
-separates-mark x v r e t q = rw (← e, t) q
+separates-bare x = refl
 
 -- ---- what follows the last one
 neither : (a b : Bool) → pick a true b ≡ false → (a ≡ false) × (b ≡ false)
@@ -69,19 +64,19 @@ unfolding syllableStart
 started row i h e = rw (e, length-drop i (rowCells row), row-length row) (omega arith)
 
 module _ (row : List ℕ) (i : ℕ) (e : anySeparates (drop i (rowCells row)) ≡ false) (h : i ≤ length row) where
-  module _ (v : Bool) (p : 0 < i) (q : v ≡ separates (bare (getD row (i - 1) 0))) where
+  module _ (v : Bool) (p : 0 < i) (q : v ≡ isSeparator (getD row (i - 1) 0)) where
     pub start-found : v ≡ true → i ≡ syllableStart (rowCells row)
     start-found t =
         let d : suc (i - 1) ≡ i = omega arith in
         let l : i - 1 < length (rowCells row) = rw (row-length row) (omega arith) in
-        let s : separates (getD (rowCells row) (i - 1) blank) ≡ true = rw (row-at row (i - 1)) (sym q ∙ t) in
+        let s : separates (getD (rowCells row) (i - 1) blank) ≡ true = rw (row-at row (i - 1), ← separates-bare (getD row (i - 1) 0)) (sym q ∙ t) in
         started row i h (rw d at (after-last (rowCells row) (i - 1) l s (rw d e)))
 
     pub start-on : v ≡ false → anySeparates (drop (i - 1) (rowCells row)) ≡ false
     start-on t =
         let d : i - 1 + 1 ≡ i = omega arith in
         let l : i - 1 < length row = omega arith in
-        rw (none-turn row (i - 1) l, ← q, t, d) e
+        rw (none-turn row (i - 1) l, ← separates-bare (getD row (i - 1) 0), ← q, t, d) e
 
   pub start-whole : i ≤ 0 → 0 ≡ syllableStart (rowCells row)
   start-whole z = let d : i ≡ 0 = omega arith in started row 0 (omega arith) (whole (rowCells row) (rw d at e))

@@ -4,9 +4,9 @@ use mathlib.Core.Bool.{Bool, true, false}
 use mathlib.Core.List.{List, [], _∷_}
 use lib.Dec.{eqb, ltb}
 use lib.ListN.{length, getD, drop}
-use Rattle.p0_choice.specs.Choice.{pick, among}
-use Rattle.p0_choice.specs.Text.{word, words}
-use Rattle.p1_letters.specs.Alphabet.{isWhiteSpace, asciiLower}
+use Rattle.p0_choice.specs.Choice.{pick}
+use Rattle.p0_choice.specs.Text.{words}
+use Rattle.p1_letters.specs.Alphabet.{isSeparator, asciiLower}
 use Rattle.p1_letters.specs.Vowels.{isVowel}
 use Rattle.p3_cells.specs.Cells.{blank}
 use Rattle.p3_cells.specs.Text.{letterOf}
@@ -26,7 +26,7 @@ anyVowel (x ∷ xs) = pick (isVowel (letterOf x)) true (anyVowel xs)
 
 -- "white space or . , ! ? ; : cell"
 unfoldable pub separates : Cell → Bool
-separates x = pick (isWhiteSpace (letterOf x)) true (among (letterOf x) (word ".,!?;:"))
+separates x = isSeparator (letterOf x)
 
 unfoldable pub anySeparates : List Cell → Bool
 anySeparates [] = false

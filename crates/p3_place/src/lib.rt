@@ -4,8 +4,8 @@ ghost use mathlib.Core.Path.{_≡_};
 ghost use Prim.Native.Nat.{_<_, _≤_};
 ghost use lib.ListN.{length, getD, take, drop};
 ghost use Rattle.p3_cells.specs.Cells.{limit, blank};
-ghost use Rattle.p3_row.specs.Row.{bare, rowCells};
-ghost use Rattle.p3_place.specs.Place.{anyVowel, separates as separatesOf, lastSyllable, syllableStart, vowelPlaces, glidingPair, kept, risingPair, rises, chosen as chosenOf, tonePlace};
+ghost use Rattle.p3_row.specs.Row.{rowCells};
+ghost use Rattle.p3_place.specs.Place.{anyVowel, lastSyllable, syllableStart, vowelPlaces, glidingPair, kept, risingPair, rises, chosen as chosenOf, tonePlace};
 ghost use Rattle.p3_place.specs.Places.{Below};
 use p1_letters as letters;
 use p3_cells::LIMIT;
@@ -23,26 +23,12 @@ pub fn any_vowel(row: &[u32]) -> bool
     false
 }
 
-// White space or . , ! ? ; : with : and ; in two arms, as they are neighbours.
-fn separates(x: u32) -> bool
-    ensures { λ r. ⌜ r ≡ separatesOf (bare x) ⌝ }
-{
-    if letters::is_white_space(x) {
-        return true;
-    }
-    match x {
-        33 | 44 | 46 | 58 | 63 => true,
-        59 => true,
-        _ => false,
-    }
-}
-
 fn last_syllable_start(row: &[u32]) -> usize
     ensures { λ r. ⌜ (r ≡ syllableStart (rowCells (now (row .entry)))) × (r ≤ length (now (row .entry))) ⌝ }
 {
     let mut i = row.len();
     while 0 < i {
-        if separates(row[i - 1]) {
+        if letters::is_separator(row[i - 1]) {
             return i;
         }
         i -= 1;

@@ -3,3 +3,4 @@ pub mod Tests
 pub mod Sound
 pub mod Writing
 pub mod Round
+pub mod Fields

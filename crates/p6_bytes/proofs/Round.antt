@@ -121,13 +121,13 @@ flag-forth zero h = refl
 flag-forth (suc zero) h = refl
 flag-forth (suc (suc x)) h = absurd (omega arith)
 
-method-forth : (x : ℕ) → x ≤ 1 → methodByte (methodOf x) ≡ x
+pub method-forth : (x : ℕ) → x ≤ 1 → methodByte (methodOf x) ≡ x
 unfolding methodOf
 method-forth zero h = refl
 method-forth (suc zero) h = refl
 method-forth (suc (suc x)) h = absurd (omega arith)
 
-mode-forth : (x : ℕ) → x ≤ 1 → modeByte (modeOf x) ≡ x
+pub mode-forth : (x : ℕ) → x ≤ 1 → modeByte (modeOf x) ≡ x
 unfolding modeOf
 mode-forth zero h = refl
 mode-forth (suc zero) h = refl

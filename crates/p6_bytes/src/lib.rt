@@ -175,6 +175,35 @@ pub fn decode(b: &[u8]) -> Composition
     }
 }
 
+// ---- its numbers, each of which is one byte
+
+fn number(b: u8) -> u32
+    ensures { λ r. ⌜ r ≡ b ⌝ }
+{
+    b as u32
+}
+
+pub fn method_number(b: &[u8]) -> u32
+    requires { ⌜ bytesSound (now b) ≡ true ⌝ }
+    ensures { λ r. ⌜ r ≡ methodByte (compositionOf (now (b .entry)) .method) ⌝ }
+{
+    number(b[0])
+}
+
+pub fn mode_number(b: &[u8]) -> u32
+    requires { ⌜ bytesSound (now b) ≡ true ⌝ }
+    ensures { λ r. ⌜ r ≡ modeByte (compositionOf (now (b .entry)) .mode) ⌝ }
+{
+    number(b[1])
+}
+
+pub fn cell_count(b: &[u8]) -> usize
+    requires { ⌜ bytesSound (now b) ≡ true ⌝ }
+    ensures { λ r. ⌜ r ≡ compositionOf (now (b .entry)) .count ⌝ }
+{
+    wide(b[2])
+}
+
 // ---- writing
 
 fn method_byte(m: InputMethod) -> u8

@@ -8,3 +8,7 @@ use Rattle.p6_bytes.specs.Bytes.{bytesSound}
 
 unfoldable pub soundCode : List ℕ → ℕ
 soundCode b = pick (bytesSound b) 0 (numberOf Unsound)
+
+-- what then stands in the lent place: the number that is asked of the composition, or what stood there
+unfoldable pub soundOut : List ℕ → ℕ → ℕ → ℕ
+soundOut b n old = pick (bytesSound b) n old

@@ -4,15 +4,23 @@ ghost use lib.ListN.{length};
 ghost use Rattle.p0_refusals.specs.Answers.{refusalOf};
 ghost use Rattle.p3_calls.specs.Output.{textOutcome, popOutcome};
 ghost use Rattle.p3_key.specs.Process.{keyOutcome};
-ghost use Rattle.p6_bytes.specs.Bytes.{compositionOf, bytesSound};
+ghost use Rattle.p6_bytes.specs.Bytes.{size, methodByte, modeByte, compositionOf};
 ghost use Rattle.p6_composition.specs.Calls.{answerOn, bytesOn, outOn, keyStep, resetStep, literalStep, popStep, undoStep, methodStep, modeStep, textOn, newOn, newBytes};
 ghost use Rattle.p6_host.specs.Counts.{countOut, behaviourOut};
-ghost use Rattle.p6_host.specs.CompositionCalls.{soundCode};
+ghost use Rattle.p6_host.specs.CompositionCalls.{soundCode, soundOut};
 use crate::answers::tell;
 use crate::answers::tell_behaviour;
 use p0_refusals::Refusal;
 use p0_refusals::number;
 use p0_refusals::refusal_of;
+
+// How many bytes a composition takes: this is returned, and nothing is refused.
+#[no_mangle]
+pub extern "C" fn pasdrongel_composition_bytes() -> usize
+    ensures { λ r. ⌜ r ≡ size ⌝ }
+{
+    p6_bytes::SIZE
+}
 
 #[no_mangle]
 pub extern "C" fn pasdrongel_new(state: &mut [u8], method: u32) -> u32
@@ -24,13 +32,46 @@ pub extern "C" fn pasdrongel_new(state: &mut [u8], method: u32) -> u32
 }
 
 #[no_mangle]
-pub extern "C" fn pasdrongel_composition_ok(state: &[u8]) -> u32
+pub extern "C" fn pasdrongel_check_composition(state: &[u8]) -> u32
     ensures { λ r. ⌜ r ≡ soundCode (now (state .entry)) ⌝ }
 {
     if p6_bytes::bytes_ok(state) {
         return 0;
     }
     number(Refusal::Unsound)
+}
+
+#[no_mangle]
+pub extern "C" fn pasdrongel_method(state: &[u8], method: &mut u32) -> u32
+    ensures { λ r. ⌜ (r ≡ soundCode (now (state .entry))) × (now (method .exit) ≡ soundOut (now (state .entry)) (methodByte (compositionOf (now (state .entry)) .method)) (now (method .entry))) ⌝ }
+{
+    if !p6_bytes::bytes_ok(state) {
+        return number(Refusal::Unsound);
+    }
+    *method = p6_bytes::method_number(state);
+    0
+}
+
+#[no_mangle]
+pub extern "C" fn pasdrongel_mode(state: &[u8], mode: &mut u32) -> u32
+    ensures { λ r. ⌜ (r ≡ soundCode (now (state .entry))) × (now (mode .exit) ≡ soundOut (now (state .entry)) (modeByte (compositionOf (now (state .entry)) .mode)) (now (mode .entry))) ⌝ }
+{
+    if !p6_bytes::bytes_ok(state) {
+        return number(Refusal::Unsound);
+    }
+    *mode = p6_bytes::mode_number(state);
+    0
+}
+
+#[no_mangle]
+pub extern "C" fn pasdrongel_count(state: &[u8], count: &mut usize) -> u32
+    ensures { λ r. ⌜ (r ≡ soundCode (now (state .entry))) × (now (count .exit) ≡ soundOut (now (state .entry)) (compositionOf (now (state .entry)) .count) (now (count .entry))) ⌝ }
+{
+    if !p6_bytes::bytes_ok(state) {
+        return number(Refusal::Unsound);
+    }
+    *count = p6_bytes::cell_count(state);
+    0
 }
 
 #[no_mangle]

@@ -1,6 +1,6 @@
 // The letters (port order 1).
 ghost use mathlib.Core.Path.{_≡_};
-ghost use Rattle.p1_letters.specs.Alphabet.{isCapital, isWhiteSpace, lower, upper};
+ghost use Rattle.p1_letters.specs.Alphabet.{isCapital, isWhiteSpace, isSeparator, lower, upper};
 ghost use Rattle.p1_letters.specs.Tones.{toneOn, toneOff};
 ghost use Rattle.p1_letters.specs.Vowels.{isVowel, isSpellingVowel};
 ghost use Rattle.p6_host.specs.LetterCalls.{letterCode, letterOut, toneCode, toneOut, flagOf};
@@ -64,6 +64,13 @@ pub extern "C" fn pasdrongel_is_white_space(letter: u32, yes: &mut u32) -> u32
     ensures { λ r. ⌜ (r ≡ letterCode letter) × (now (yes .exit) ≡ letterOut letter (flagOf (isWhiteSpace letter)) (now (yes .entry))) ⌝ }
 {
     give(letter, flag(p1_letters::is_white_space(letter)), yes)
+}
+
+#[no_mangle]
+pub extern "C" fn pasdrongel_is_separator(letter: u32, yes: &mut u32) -> u32
+    ensures { λ r. ⌜ (r ≡ letterCode letter) × (now (yes .exit) ≡ letterOut letter (flagOf (isSeparator letter)) (now (yes .entry))) ⌝ }
+{
+    give(letter, flag(p1_letters::is_separator(letter)), yes)
 }
 
 #[no_mangle]

@@ -25,5 +25,5 @@ use Rattle.p4_spelling.specs.Verdict as SpellingVerdict
 use Rattle.p7_examples.specs.Examples.{typed, holds, examples}
 
 pub examples-hold : T (each holds examples)
-unfolding typed holds examples ChoiceText.word ChoiceText.wordsFrom ChoiceText.words LettersAlphabet.smallBy32 LettersAlphabet.smallBy1 LettersAlphabet.smallHigh LettersAlphabet.smallNext LettersAlphabet.isSmall LettersAlphabet.isAsciiCapital LettersAlphabet.isCapital LettersAlphabet.inAlphabet LettersAlphabet.isWhiteSpace LettersAlphabet.asciiLower LettersAlphabet.asciiUpper LettersAlphabet.lower LettersAlphabet.upper LettersTones.toneRows LettersTones.toneColumn LettersTones.rowOf LettersTones.toneFrom LettersTones.toneOn LettersTones.offIn LettersTones.toneOff LettersVowels.vowels LettersVowels.isVowel LettersVowels.isSpellingVowel InputMethodRules.toneKeys InputMethodRules.isToneKey InputMethodRules.markRule InputMethodRules.markRules InputMethodRules.markIn InputMethodRules.markFor InputMethodRules.isHornKey CellsCells.isBlank CellsCells.marks CellsCells.tones CellsCells.markFits CellsCells.toneFits CellsCells.isCell CellsCells.fitsAt CellsCells.isSound CellsCells.typed CellsCells.used CellsCells.holding CellsText.letterOf CellsText.tonedLetter CellsText.shown CellsText.textOf PlacePlace.lowLetter PlacePlace.lowBase PlacePlace.anyVowel PlacePlace.separates PlacePlace.anySeparates PlacePlace.lastSyllable PlacePlace.syllableStart PlacePlace.vowelPlaces PlacePlace.pairIn PlacePlace.glidingPair PlacePlace.glides PlacePlace.risingPair PlacePlace.kept PlacePlace.rises PlacePlace.chosen PlacePlace.placeOf PlacePlace.tonePlace MarksUo.baseAt MarksUo.uoBack MarksUo.uoPlace MarksUo.hornU MarksUo.uoMade MarksUa.afterQ MarksUa.uaPlace MarksUa.marked MarksUa.uaMade MarksMark.markBack MarksMark.markPlace MarksMark.markMade KeyKey.withTone KeyKey.toneMade KeyKey.appended KeyKey.markOrLater KeyKey.hornOrLater KeyKey.keyCells CallsSettings.empty CallsSettings.created UndoRaw.lowered UndoRaw.endsIn UndoRaw.pairAt UndoRaw.lastEnd UndoRaw.anyPlain UndoRaw.active UndoUndo.lastWith UndoUndo.hasTone UndoUndo.hasMark UndoUndo.ruleAt UndoUndo.byRules UndoUndo.toneAt UndoUndo.toUndo UndoUndo.toneless UndoUndo.restored UndoUndo.undone UndoCall.undoFound UndoCall.undoTelex RowsRows.onsetRows RowsRows.vowelRows RowsRows.codaRows RowsRows.onsetToVowels RowsRows.vowelsToCoda RowsLookup.sameWord RowsLookup.inList RowsLookup.rowsFrom RowsLookup.rowsOf RowsLookup.listed RowsLookup.allows RowsLookup.allowsAny RowsLookup.goTogether SpellingCut.beforeVowel SpellingCut.vowelRun SpellingCut.isGlue SpellingCut.startsGlued SpellingCut.onsetEnd SpellingCut.vowelsEnd SpellingCut.onsetOf SpellingCut.vowelsOf SpellingCut.codaOf SpellingVerdict.hasForeign SpellingVerdict.listedIfAny SpellingVerdict.onsetFits SpellingVerdict.codaFits SpellingVerdict.partsFit SpellingVerdict.fits SpellingVerdict.lowered SpellingVerdict.toneless SpellingVerdict.verdict
+unfolding typed holds examples ChoiceText.word ChoiceText.wordsFrom ChoiceText.words LettersAlphabet.smallBy32 LettersAlphabet.smallBy1 LettersAlphabet.smallHigh LettersAlphabet.smallNext LettersAlphabet.isSmall LettersAlphabet.isAsciiCapital LettersAlphabet.isCapital LettersAlphabet.inAlphabet LettersAlphabet.isWhiteSpace LettersAlphabet.isSeparator LettersAlphabet.asciiLower LettersAlphabet.asciiUpper LettersAlphabet.lower LettersAlphabet.upper LettersTones.toneRows LettersTones.toneColumn LettersTones.rowOf LettersTones.toneFrom LettersTones.toneOn LettersTones.offIn LettersTones.toneOff LettersVowels.vowels LettersVowels.isVowel LettersVowels.isSpellingVowel InputMethodRules.toneKeys InputMethodRules.isToneKey InputMethodRules.markRule InputMethodRules.markRules InputMethodRules.markIn InputMethodRules.markFor InputMethodRules.isHornKey CellsCells.isBlank CellsCells.marks CellsCells.tones CellsCells.markFits CellsCells.toneFits CellsCells.isCell CellsCells.fitsAt CellsCells.isSound CellsCells.typed CellsCells.used CellsCells.holding CellsText.letterOf CellsText.tonedLetter CellsText.shown CellsText.textOf PlacePlace.lowLetter PlacePlace.lowBase PlacePlace.anyVowel PlacePlace.separates PlacePlace.anySeparates PlacePlace.lastSyllable PlacePlace.syllableStart PlacePlace.vowelPlaces PlacePlace.pairIn PlacePlace.glidingPair PlacePlace.glides PlacePlace.risingPair PlacePlace.kept PlacePlace.rises PlacePlace.chosen PlacePlace.placeOf PlacePlace.tonePlace MarksUo.baseAt MarksUo.uoBack MarksUo.uoPlace MarksUo.hornU MarksUo.uoMade MarksUa.afterQ MarksUa.uaPlace MarksUa.marked MarksUa.uaMade MarksMark.markBack MarksMark.markPlace MarksMark.markMade KeyKey.withTone KeyKey.toneMade KeyKey.appended KeyKey.markOrLater KeyKey.hornOrLater KeyKey.keyCells CallsSettings.empty CallsSettings.created UndoRaw.lowered UndoRaw.endsIn UndoRaw.pairAt UndoRaw.lastEnd UndoRaw.anyPlain UndoRaw.active UndoUndo.lastWith UndoUndo.hasTone UndoUndo.hasMark UndoUndo.ruleAt UndoUndo.byRules UndoUndo.toneAt UndoUndo.toUndo UndoUndo.toneless UndoUndo.restored UndoUndo.undone UndoCall.undoFound UndoCall.undoTelex RowsRows.onsetRows RowsRows.vowelRows RowsRows.codaRows RowsRows.onsetToVowels RowsRows.vowelsToCoda RowsLookup.sameWord RowsLookup.inList RowsLookup.rowsFrom RowsLookup.rowsOf RowsLookup.listed RowsLookup.allows RowsLookup.allowsAny RowsLookup.goTogether SpellingCut.beforeVowel SpellingCut.vowelRun SpellingCut.isGlue SpellingCut.startsGlued SpellingCut.onsetEnd SpellingCut.vowelsEnd SpellingCut.onsetOf SpellingCut.vowelsOf SpellingCut.codaOf SpellingVerdict.hasForeign SpellingVerdict.listedIfAny SpellingVerdict.onsetFits SpellingVerdict.codaFits SpellingVerdict.partsFit SpellingVerdict.fits SpellingVerdict.lowered SpellingVerdict.toneless SpellingVerdict.verdict
 examples-hold = tt
