@@ -2,3 +2,4 @@ pub mod Base
 pub mod Uo
 pub mod Ua
 pub mod Mark
+pub mod Nearest

@@ -43,7 +43,7 @@ after-last [] i h e f = absurd (omega arith)
 after-last (x ∷ xs) zero h e f = rw (f, e) refl
 after-last (x ∷ xs) (suc i) h e f = rw (any-at xs i (omega arith) e) (after-last xs i (omega arith) e f)
 
-whole : (cs : List Cell) → anySeparates cs ≡ false → lastSyllable cs ≡ cs
+pub whole : (cs : List Cell) → anySeparates cs ≡ false → lastSyllable cs ≡ cs
 unfolding lastSyllable anySeparates
 whole [] e = refl
 whole (x ∷ xs) e = let q = neither (separates x) (anySeparates xs) e in rw (q .1, q .0) refl

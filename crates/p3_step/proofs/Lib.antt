@@ -3,3 +3,4 @@ pub mod Cells
 pub mod Makes
 pub mod Same
 pub mod Sound
+pub mod Frame

@@ -4,3 +4,4 @@ pub mod Undo
 pub mod Found
 pub mod Call
 pub mod Kept
+pub mod InWords

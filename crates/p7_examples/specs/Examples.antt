@@ -5,16 +5,18 @@ use Prim.Native.String.{String}
 use mathlib.Core.Bool.{Bool, true, false}
 use mathlib.Core.List.{List, [], _∷_}
 use lib.Dec.{eqb}
-use lib.ListN.{getD}
+use lib.ListN.{length, getD, take, replicate}
 use Rattle.p0_choice.specs.Choice.{pick, same}
 use Rattle.p0_choice.specs.Text.{word}
+use Rattle.p0_refusals.specs.Answers.{content, unless, output}
+use Rattle.p0_refusals.specs.declared.Answer.{Answer}
+use Rattle.p0_refusals.specs.declared.Answer.the-variants.{Done, Refused}
 use Rattle.p2_input_method.specs.declared.InputMethod.{InputMethod}
 use Rattle.p2_input_method.specs.declared.InputMethod.the-variants.{Telex, Vni}
 use Rattle.p3_calls.specs.Settings.{created}
-use Rattle.p3_cells.specs.Cells.{blank, holding}
-use Rattle.p3_cells.specs.Text.{textOf}
-use Rattle.p3_cells.specs.declared.Cell.{Cell}
-use Rattle.p3_step.specs.Key.{keyCells}
+use Rattle.p3_cells.specs.Cells.{limit, blank}
+use Rattle.p3_cells.specs.declared.Composition.{Composition}
+use Rattle.p3_key.specs.Process.{keyOutcome, keyed}
 use Rattle.p3_undo.specs.Call.{refusalOf, undoTelex}
 use Rattle.p4_rows.specs.Lookup.{sameWord}
 use Rattle.p4_spelling.specs.Verdict.{verdict}
@@ -27,19 +29,39 @@ pub data Example : Type 0 where
   undoRefused : InputMethod → String → String → String → ℕ → Example
   judged : String → Bool → Example
 
--- the cells after the keys
-unfoldable pub typed : InputMethod → List Cell → List ℕ → List Cell
-typed m cs [] = cs
-typed m cs (k ∷ ks) = typed m (keyCells m cs k) ks
+-- what keys on a fresh composition leave: the composition, the last call's answer, and the text that it wrote
+pub record Pressed : Type 0 where
+  pub comp : Composition
+  pub answer : Answer
+  pub text : List ℕ
 
-abbrev pub cellsOf : InputMethod → String → List Cell
-cellsOf m keys = typed m [] (word keys)
+-- a key, as the contract of the key call has it, with room for every text and zeros there; after a refusal no key is pressed
+unfoldable pub press : Pressed → ℕ → Pressed
+press p key =
+    unless (p .answer) p
+    (record {
+      comp = keyed (p .comp) key limit .comp;
+      answer = keyed (p .comp) key limit .answer;
+      text = take (length (content (keyOutcome (p .comp) key))) (output (keyOutcome (p .comp) key) (replicate {A = ℕ} limit 0));
+    })
+
+unfoldable pub pressAll : Pressed → List ℕ → Pressed
+pressAll p [] = p
+pressAll p (key ∷ keys) = pressAll (press p key) keys
+
+abbrev pub pressed : InputMethod → String → Pressed
+pressed m keys = pressAll (record { comp = created m; answer = Done 0; text = [] }) (word keys)
+
+-- the last key is done
+abbrev pub isDone : Answer → Bool
+isDone (Done n) = true
+isDone (Refused r) = false
 
 unfoldable pub holds : Example → Bool
-holds (gives m keys text) = sameWord (textOf (cellsOf m keys)) (word text)
-holds (tones m keys i tone) = eqb (getD (cellsOf m keys) i blank .tone) (getD (word tone) 0 0)
+holds (gives m keys text) = pick (isDone (pressed m keys .answer)) (sameWord (pressed m keys .text) (word text)) false
+holds (tones m keys i tone) = eqb (getD (pressed m keys .comp .cells) i blank .tone) (getD (word tone) 0 0)
 holds (undoRefused m keys trigger raw n) =
-    eqb (refusalOf (undoTelex (holding (created m) (cellsOf m keys)) (getD (word trigger) 0 0) (word raw) .answer)) n
+    eqb (refusalOf (undoTelex (pressed m keys .comp) (getD (word trigger) 0 0) (word raw) .answer)) n
 holds (judged w given) = same (verdict (word w)) given
 
 unfoldable pub examples : List Example
