@@ -10,6 +10,10 @@ use crate::oracle::{self, alphabet, MARKS, TONE_KEYS, WORD_LETTERS};
 use crate::report::{Random, Run};
 use crate::session;
 
+pub const CALLS: &[&str] = &[
+    "new", "composition_ok", "key", "text", "literal", "remove_last", "undo", "reset", "set_method", "set_mode",
+];
+
 /// The keys that compose under each method, and letters that its steps look at or pass over.
 const TELEX_KEYS: &str = "aeouiydwsfrxjqgnb .";
 const VNI_KEYS: &str = "aeouiyd678912345qgnb .";

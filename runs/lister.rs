@@ -7,6 +7,8 @@ use crate::oracle::{self, alphabet, listing, tone_on, upper, TONE_KEYS, WORD_LET
 use crate::report::{Random, Run};
 use crate::spelling::random_word;
 
+pub const CALLS: &[&str] = &["total", "word", "next_word"];
+
 /// Enough for every listed word.
 const ROOM: usize = 10;
 

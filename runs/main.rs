@@ -23,21 +23,22 @@ mod utf8;
 use report::Run;
 use std::process::ExitCode;
 
-/// A subject: what is compared, and the answers of the oracle that are kept as a fixed list.
+/// A subject: the calls that it is there to compare, the comparison, and the answers of the oracle that are kept as a fixed list.
 pub struct Subject {
     name: &'static str,
+    calls: &'static [&'static str],
     compare: fn(&mut Run),
     fixed: fn() -> Vec<String>,
 }
 
 /// Every subject, in document 01's port order.
 const SUBJECTS: &[Subject] = &[
-    Subject { name: "letters", compare: letters::compare, fixed: letters::fixed },
-    Subject { name: "methods", compare: methods::compare, fixed: methods::fixed },
-    Subject { name: "composer", compare: composer::compare, fixed: composer::fixed },
-    Subject { name: "spelling", compare: spelling::compare, fixed: spelling::fixed },
-    Subject { name: "lister", compare: lister::compare, fixed: lister::fixed },
-    Subject { name: "utf8", compare: utf8::compare, fixed: utf8::fixed },
+    Subject { name: "letters", calls: letters::CALLS, compare: letters::compare, fixed: letters::fixed },
+    Subject { name: "methods", calls: methods::CALLS, compare: methods::compare, fixed: methods::fixed },
+    Subject { name: "composer", calls: composer::CALLS, compare: composer::compare, fixed: composer::fixed },
+    Subject { name: "spelling", calls: spelling::CALLS, compare: spelling::compare, fixed: spelling::fixed },
+    Subject { name: "lister", calls: lister::CALLS, compare: lister::compare, fixed: lister::fixed },
+    Subject { name: "utf8", calls: utf8::CALLS, compare: utf8::compare, fixed: utf8::fixed },
 ];
 
 fn main() -> ExitCode {
@@ -66,7 +67,7 @@ fn main() -> ExitCode {
 fn compare<'a>(chosen: impl Iterator<Item = &'a Subject>, until_found: bool) -> ExitCode {
     let mut run = Run::from_environment(until_found);
     for subject in chosen {
-        run.subject(subject.name);
+        run.subject(subject.name, subject.calls);
         (subject.compare)(&mut run);
     }
     run.conclude()

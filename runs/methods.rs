@@ -7,6 +7,8 @@ use crate::letters::numbers;
 use crate::oracle::{alphabet, letter, UNSOUND};
 use crate::report::Run;
 
+pub const CALLS: &[&str] = &["is_tone_key", "is_horn_key", "mark_for"];
+
 /// Telex, VNI, and numbers that are neither.
 const METHODS: [u32; 6] = [0, 1, 2, 255, 256, u32::MAX];
 

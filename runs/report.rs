@@ -19,7 +19,12 @@ pub struct Run {
     subject: &'static str,
     random: Random,
     kind: Option<Kind>,
+    /// The calls that the subject is there to compare, and how often each that it compared was.
+    declared: &'static [&'static str],
     by_call: Vec<(&'static str, u64)>,
+    /// Of the subjects before: the same counts, and what they compared against what they are there for.
+    counted: Vec<(&'static str, u64)>,
+    faults: Vec<String>,
     calls: u64,
     differ: u64,
     until_found: bool,
@@ -31,14 +36,15 @@ impl Run {
     pub fn from_environment(until_found: bool) -> Run {
         let (seed, scale) = (number("SEED", 1), number("SCALE", 1));
         eprintln!("SEED={seed} SCALE={scale}");
-        let (subject, random) = ("", Random(0));
-        Run { seed, scale, subject, random, kind: None, by_call: Vec::new(), calls: 0, differ: 0, until_found }
+        let (by_call, counted, faults) = (Vec::new(), Vec::new(), Vec::new());
+        let (subject, random, kind, declared) = ("", Random(0), None, &[]);
+        Run { seed, scale, subject, random, kind, declared, by_call, counted, faults, calls: 0, differ: 0, until_found }
     }
 
     /// A subject's random inputs depend on the seed and its name alone, and not on the subjects before it.
-    pub fn subject(&mut self, name: &'static str) {
-        self.end();
-        self.subject = name;
+    pub fn subject(&mut self, name: &'static str, calls: &'static [&'static str]) {
+        self.end_subject();
+        (self.subject, self.declared) = (name, calls);
         self.random = Random(name.bytes().fold(self.seed, |sum, byte| sum.wrapping_mul(257) + u64::from(byte)));
     }
 
@@ -81,6 +87,9 @@ impl Run {
         if let Some((_, text)) = kind.smallest {
             eprintln!("  smallest: {text}");
         }
+        if kind.calls == 0 {
+            self.faults.push(format!("{}: {}: no call was compared", self.subject, kind.name));
+        }
         self.calls += kind.calls;
         self.differ += kind.differ;
         if self.until_found && self.differ > 0 {
@@ -89,14 +98,33 @@ impl Run {
         }
     }
 
-    pub fn conclude(mut self) -> ExitCode {
+    /// A subject compares each call that it declares, and no other.
+    fn end_subject(&mut self) {
         self.end();
-        self.by_call.sort();
-        for (call, calls) in &self.by_call {
+        let name = self.subject;
+        for call in self.declared.iter().filter(|call| self.by_call.iter().all(|(other, _)| other != *call)) {
+            self.faults.push(format!("{name}: no call of {call} was compared"));
+        }
+        for (call, _) in self.by_call.iter().filter(|(call, _)| !self.declared.contains(call)) {
+            self.faults.push(format!("{name}: {call} was compared, and the subject does not declare it"));
+        }
+        self.counted.append(&mut self.by_call);
+    }
+
+    pub fn conclude(mut self) -> ExitCode {
+        self.end_subject();
+        self.counted.sort();
+        for (call, calls) in &self.counted {
             eprintln!("{call}: {calls} calls compared");
         }
-        println!("{} calls compared, {} differ", self.calls, self.differ);
-        if self.differ == 0 && self.calls > 0 { ExitCode::SUCCESS } else { ExitCode::FAILURE }
+        let sum = format!("{} calls compared, {} differ", self.calls, self.differ);
+        if !self.faults.is_empty() || self.calls == 0 {
+            self.faults.iter().for_each(|fault| println!("{fault}"));
+            println!("{sum}, but not of each call and each kind");
+            return ExitCode::FAILURE;
+        }
+        println!("{sum}");
+        if self.differ == 0 { ExitCode::SUCCESS } else { ExitCode::FAILURE }
     }
 
     /// So many random inputs, times SCALE.

@@ -7,6 +7,8 @@ use crate::fixed::{bracketed, refused, yes_no};
 use crate::oracle::{self, alphabet, listing, lower, tone_on, upper, TONE_KEYS, WORD_LETTERS};
 use crate::report::{Random, Run};
 
+pub const CALLS: &[&str] = &["cut", "verdict"];
+
 /// The letters of Vietnamese, and the four that refuse a word.
 const USEFUL: &str = "aăâbcdđeêghiklmnoôơpqrstuưvxyfjwz";
 

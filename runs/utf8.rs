@@ -6,6 +6,8 @@ use crate::letters::numbers;
 use crate::oracle::{self, alphabet, LINE_BYTES, WORD_LETTERS};
 use crate::report::{Random, Run};
 
+pub const CALLS: &[&str] = &["read_utf8", "write_utf8"];
+
 /// The ends of every range in RFC 3629's grammar, bytes that begin or end a Vietnamese letter, and bytes of no form.
 const AWKWARD: [u8; 36] = [
     0x00, 0x0a, 0x41, 0x61, 0x7f, 0x80, 0x8f, 0x90, 0x9f, 0xa0, 0xa1, 0xb0, 0xb9, 0xba, 0xbb, 0xbf, 0xc0, 0xc1, 0xc2,
