@@ -1,4 +1,6 @@
 pub mod Bytes
 pub mod Program
 pub mod Ends
+pub mod Over
 pub mod Parts
+pub mod Whole

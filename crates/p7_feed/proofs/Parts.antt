@@ -11,8 +11,9 @@ use lib.Seq.{drop-cons, drop-at, drop-drop, take-at, take-suc-set, length-take-l
 use borrow.Author.Tests.{eq-eqb, ne-eqb, lt-ltb, le-ltb}
 use Rattle.p0_choice.specs.Choice.{pick}
 use Rattle.p0_refusals.specs.Answers.{onto}
+use Rattle.p7_line.specs.Line.{most}
 use Rattle.p7_feed.specs.declared.Phase.{Phase}
-use Rattle.p7_feed.specs.Run.{State, state, most, hold, endPhase, endOut, stepTo, stepOut, runTo, runOut, lineAfter}
+use Rattle.p7_feed.specs.Run.{State, state, hold, endPhase, endOut, stepTo, stepOut, runTo, runOut, lineAfter}
 
 here : (part : List ℕ) (i : ℕ) → i < length part → drop i part ≡ getD part i 0 ∷ drop (i + 1) part
 here part i h = rw (add-one i) (drop-cons part i 0 h)

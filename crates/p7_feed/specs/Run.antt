@@ -1,14 +1,15 @@
 -- The run over bytes as they come: what is held of the line at hand, and what each byte prints.
-use Prim.Native.Nat.{ℕ, _+_}
+use Prim.Native.Nat.{ℕ, _+_, _*_}
 use mathlib.Core.Bool.{Bool, true, false}
 use mathlib.Core.List.{List, [], _∷_, _++_}
 use lib.Dec.{eqb, ltb}
-use lib.ListN.{length, set}
+use lib.ListN.{length, take, set}
 use Rattle.p0_choice.specs.Choice.{pick}
-use Rattle.p7_line.specs.Line.{refusedLine, lineOut}
+use Rattle.p7_line.specs.Line.{most, lineRoom, refusedLine, lineOut}
 use Rattle.p7_line.specs.Method.{methodOf}
 use Rattle.p7_line.specs.declared.Begun.{Begun}
 use Rattle.p7_line.specs.declared.Begun.the-variants.{With, Refused}
+use Rattle.p7_feed.specs.declared.Carry.{Carry}
 use Rattle.p7_feed.specs.declared.Fed.{Fed}
 use Rattle.p7_feed.specs.declared.Phase.{Phase}
 use Rattle.p7_feed.specs.declared.Phase.the-variants.{Start, Keys, Ended}
@@ -20,10 +21,18 @@ pub record State : Type 0 where
 abbrev pub state : List ℕ → Phase → State
 state l p = record { held = l; phase = p }
 
--- one byte over the limit is held, by which the line is refused, and no more
-abbrev pub most : ℕ
-most = 257
+-- what is held stands at the start of the line's buffer
+abbrev pub stateOf : List ℕ → Carry → State
+stateOf line c = state (take (c .len) line) (c .phase)
 
+-- the most bytes of a part, and room for what they print: a line each
+abbrev pub partMost : ℕ
+partMost = 512
+
+abbrev pub outRoom : ℕ
+outRoom = partMost * lineRoom
+
+-- one byte over the limit is held, by which the line is refused, and no more
 unfoldable pub hold : List ℕ → ℕ → List ℕ
 hold l b = pick (ltb (length l) most) (l ++ (b ∷ [])) l
 
@@ -61,6 +70,15 @@ runTo s (b ∷ bs) = runTo (stepTo s b) bs
 unfoldable pub runOut : State → List ℕ → List ℕ
 runOut s [] = []
 runOut s (b ∷ bs) = stepOut s b ++ runOut (stepTo s b) bs
+
+-- any number of parts, one after another
+unfoldable pub partsTo : State → List (List ℕ) → State
+partsTo s [] = s
+partsTo s (part ∷ parts) = partsTo (runTo s part) parts
+
+unfoldable pub partsOut : State → List (List ℕ) → List ℕ
+partsOut s [] = []
+partsOut s (part ∷ parts) = runOut s part ++ partsOut (runTo s part) parts
 
 -- what goes on to the next part, and how much this one prints
 unfoldable pub fed : State → List ℕ → Fed

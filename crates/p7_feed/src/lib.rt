@@ -4,10 +4,18 @@ ghost use mathlib.Core.List.{_++_};
 ghost use Prim.Native.Nat.{_+_, _≤_};
 ghost use lib.ListN.{length, take, drop};
 ghost use Rattle.p0_refusals.specs.Answers.{onto};
-ghost use Rattle.p7_feed.specs.Run.{state, endPhase, endOut, runTo, runOut, fed, lineAfter, finishOut};
+ghost use Rattle.p7_line.specs.Line.{most, lineRoom};
+ghost use Rattle.p7_feed.specs.Run.{stateOf, partMost, outRoom, endPhase, endOut, runTo, runOut, fed, lineAfter, finishOut};
 use p0_slices as slices;
 use p2_input_method::InputMethod;
 use p7_line::Begun;
+use p7_line::MOST;
+
+// The most bytes of a part; `partMost` says the same.
+pub const PART: usize = 512;
+
+// Room for what a part prints; `outRoom` says the same.
+pub const ROOM: usize = PART * p7_line::ROOM;
 
 // Before the method line; reading lines of keys; after a refused method line.
 pub enum Phase {
@@ -46,8 +54,8 @@ fn end_phase(phase: Phase, line: &[u8]) -> Phase
 
 // What a line prints.
 fn end_out(phase: Phase, line: &[u8], out: &mut [u8], at: usize) -> usize
-    requires { ⌜ at + 101 ≤ length (now out) ⌝ }
-    ensures { λ r. ⌜ (r ≡ at + length (endOut phase (now (line .entry)))) × (r ≤ at + 101) × (now (out .exit) ≡ take at (now (out .entry)) ++ (endOut phase (now (line .entry)) ++ drop r (now (out .entry)))) ⌝ }
+    requires { ⌜ at + lineRoom ≤ length (now out) ⌝ }
+    ensures { λ r. ⌜ (r ≡ at + length (endOut phase (now (line .entry)))) × (r ≤ at + lineRoom) × (now (out .exit) ≡ take at (now (out .entry)) ++ (endOut phase (now (line .entry)) ++ drop r (now (out .entry)))) ⌝ }
 {
     match phase {
         Phase::Start => {
@@ -62,13 +70,13 @@ fn end_out(phase: Phase, line: &[u8], out: &mut [u8], at: usize) -> usize
     }
 }
 
-// A part of the input of at most 512 bytes; what it prints stands at the start of `out`.
+// A part of the input; what it prints stands at the start of `out`.
 pub fn feed(part: &[u8], line: &mut [u8], carry: Carry, out: &mut [u8]) -> Fed
-    requires { ⌜ (length (now part) ≤ 512) × (length (now line) ≡ 257) × (carry .len ≤ 257) × (length (now out) ≡ 65536) ⌝ }
-    ensures { λ r. ⌜ (r ≡ fed (state (take (carry .len) (now (line .entry))) (carry .phase)) (now (part .entry))) × (r .carry .len ≤ 257) × (r .n ≤ 65536) ⌝ }
-    ensures held { λ r. ⌜ (take (r .carry .len) (now (line .exit)) ≡ runTo (state (take (carry .len) (now (line .entry))) (carry .phase)) (now (part .entry)) .held)
+    requires { ⌜ (length (now part) ≤ partMost) × (length (now line) ≡ most) × (carry .len ≤ most) × (length (now out) ≡ outRoom) ⌝ }
+    ensures { λ r. ⌜ (r ≡ fed (stateOf (now (line .entry)) carry) (now (part .entry))) × (r .carry .len ≤ most) × (r .n ≤ outRoom) ⌝ }
+    ensures held { λ r. ⌜ (stateOf (now (line .exit)) (r .carry) ≡ runTo (stateOf (now (line .entry)) carry) (now (part .entry)))
         × (now (line .exit) ≡ lineAfter (now (line .entry)) (carry .len) (now (part .entry))) ⌝ }
-    ensures printed { λ r. ⌜ now (out .exit) ≡ onto (runOut (state (take (carry .len) (now (line .entry))) (carry .phase)) (now (part .entry))) (now (out .entry)) ⌝ }
+    ensures printed { λ r. ⌜ now (out .exit) ≡ onto (runOut (stateOf (now (line .entry)) carry) (now (part .entry))) (now (out .entry)) ⌝ }
 {
     let mut len = carry.len;
     let mut phase = carry.phase;
@@ -83,7 +91,7 @@ pub fn feed(part: &[u8], line: &mut [u8], carry: Carry, out: &mut [u8]) -> Fed
             len = 0;
             continue;
         }
-        if len < 257 {
+        if len < MOST {
             line[len] = b;
             len += 1;
             continue;
@@ -95,8 +103,8 @@ pub fn feed(part: &[u8], line: &mut [u8], carry: Carry, out: &mut [u8]) -> Fed
 
 // The end of the input: an unfinished line counts if it has a byte, and the method line always.
 pub fn finish(line: &[u8], carry: Carry, out: &mut [u8]) -> usize
-    requires { ⌜ 101 ≤ length (now out) ⌝ }
-    ensures { λ r. ⌜ (r ≡ length (finishOut (state (take (carry .len) (now (line .entry))) (carry .phase)))) × (r ≤ 101) × (now (out .exit) ≡ onto (finishOut (state (take (carry .len) (now (line .entry))) (carry .phase))) (now (out .entry))) ⌝ }
+    requires { ⌜ lineRoom ≤ length (now out) ⌝ }
+    ensures { λ r. ⌜ (r ≡ length (finishOut (stateOf (now (line .entry)) carry))) × (r ≤ lineRoom) × (now (out .exit) ≡ onto (finishOut (stateOf (now (line .entry)) carry)) (now (out .entry))) ⌝ }
 {
     let held = slices::first_bytes(line, carry.len);
     let phase = carry.phase;

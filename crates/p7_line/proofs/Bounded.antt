@@ -12,29 +12,29 @@ use Rattle.p0_choice.specs.Choice.{pick}
 use Rattle.p2_input_method.specs.declared.InputMethod.{InputMethod}
 use Rattle.p0_refusals.specs.declared.Refusal.the-variants.{Long}
 use Rattle.p0_refusals.specs.Answers.{refuses}
-use Rattle.p5_utf8_read.specs.Read.{reading}
-use Rattle.p7_line.specs.Line.{lineOut}
+use Rattle.p5_utf8_read.specs.Read.{byteLimit, reading}
+use Rattle.p7_line.specs.Line.{most, lineOut}
 use Rattle.p7_line.specs.Method.{methodOf}
 
-long : (l : List ℕ) → 256 < length l → reading l ≡ refuses Long
+long : (l : List ℕ) → byteLimit < length l → reading l ≡ refuses Long
 unfolding reading
-long l h = rw (lt-ltb 256 (length l) h) refl
+long l h = rw (lt-ltb byteLimit (length l) h) refl
 
-reading-bounded : (l : List ℕ) → reading (take 257 l) ≡ reading l
-reading-bounded l = go (ltb 256 (length l)) refl
+reading-bounded : (l : List ℕ) → reading (take most l) ≡ reading l
+reading-bounded l = go (ltb byteLimit (length l)) refl
   where
-    go : (b : Bool) → ltb 256 (length l) ≡ b → reading (take 257 l) ≡ reading l
+    go : (b : Bool) → ltb byteLimit (length l) ≡ b → reading (take most l) ≡ reading l
     go true p =
-        let h = ltb-true 256 (length l) p in
-        let k : length (take 257 l) ≡ 257 = length-take-le 257 l (omega arith) in
-        let q : 256 < length (take 257 l) = omega arith in
-        long (take 257 l) q ∙ sym (long l h)
-    go false p = let h : length l ≤ 257 = omega (arith, ltb-false 256 (length l) p) in ap reading (take-all 257 l h)
+        let h = ltb-true byteLimit (length l) p in
+        let k : length (take most l) ≡ most = length-take-le most l (omega arith) in
+        let q : byteLimit < length (take most l) = omega arith in
+        long (take most l) q ∙ sym (long l h)
+    go false p = let h : length l ≤ most = omega (arith, ltb-false byteLimit (length l) p) in ap reading (take-all most l h)
 
-pub method-bounded : (l : List ℕ) → methodOf (take 257 l) ≡ methodOf l
+pub method-bounded : (l : List ℕ) → methodOf (take most l) ≡ methodOf l
 unfolding methodOf
 method-bounded l = rw (reading-bounded l) refl
 
-pub line-bounded : (m : InputMethod) (l : List ℕ) → lineOut m (take 257 l) ≡ lineOut m l
+pub line-bounded : (m : InputMethod) (l : List ℕ) → lineOut m (take most l) ≡ lineOut m l
 unfolding lineOut
 line-bounded m l = rw (reading-bounded l) refl

@@ -19,7 +19,7 @@ use Rattle.p4_spelling.specs.Verdict.{verdict}
 use Rattle.p5_utf8.specs.Rfc3629.{encodeAll}
 use Rattle.p5_utf8_write.specs.Write.{writing}
 use Rattle.p5_utf8_write.proofs.Alphabet.{few-bytes}
-use Rattle.p7_line.specs.Line.{textLine}
+use Rattle.p7_line.specs.Line.{lineRoom, textLine}
 use Rattle.p0_slices.proofs.Written.{put-after}
 
 module _ (text : List ℕ) (a : allLetters text ≡ true) (h : length text ≤ 32) where
@@ -47,7 +47,7 @@ module _ (text : List ℕ) (a : allLetters text ≡ true) (h : length text ≤ 3
           let w : out ≡ onto (encodeAll text) o = f ∙ rw (text-bytes, le-ltb (length o) (length (encodeAll text)) (omega (arith, text-small))) refl in
           t ∙ rw w (take-at (encodeAll text) (drop (length (encodeAll text)) o) n (sym k))
 
-      pub text-room : (at m : ℕ) → at + 101 ≤ m → at + length bs ≤ m
+      pub text-room : (at m : ℕ) → at + lineRoom ≤ m → at + length bs ≤ m
       text-room at m r = let k = ap length text-first in omega (arith, text-small)
 
       pub text-end : (at r : ℕ) → r ≡ at + length bs → r ≡ at + length (encodeAll text)
@@ -69,6 +69,6 @@ module _ (text : List ℕ) (s b : Bool) (i : s ≡ verdict text) (y : s ≡ b) (
   pub line-end : r ≡ at + length (textLine text)
   line-end = let k = ap length line-bytes in omega (arith, length-append (encodeAll text) p)
 
-  pub line-out : (o1 o2 o3 : List ℕ) → next ≤ at + 96 → at + 101 ≤ length o1 → o2 ≡ take at o1 ++ (encodeAll text ++ drop next o1)
+  pub line-out : (o1 o2 o3 : List ℕ) → next ≤ at + 96 → at + lineRoom ≤ length o1 → o2 ≡ take at o1 ++ (encodeAll text ++ drop next o1)
       → o3 ≡ take next o2 ++ (p ++ drop r o2) → o3 ≡ take at o1 ++ (textLine text ++ drop r o1)
   line-out o1 o2 o3 n m u v = rw line-bytes (put-after o1 o2 o3 (encodeAll text) p at next r c d (omega arith) u v)

@@ -1,5 +1,5 @@
 -- Document 01, "Examples to hold it to": what the program `wordline` prints for "one line of keys per fresh composition".
-use Prim.Native.Nat.{ℕ, _+_}
+use Prim.Native.Nat.{ℕ, _+_, _*_}
 use mathlib.Core.Bool.{Bool, true, false}
 use mathlib.Core.List.{List, [], _∷_, _++_}
 use lib.Dec.{ltb}
@@ -17,7 +17,15 @@ use Rattle.p3_step.specs.Key.{keyCells}
 use Rattle.p4_spelling.specs.Verdict.{verdict}
 use Rattle.p0_refusals.specs.Answers.{Outcome, writes, refuses}
 use Rattle.p5_utf8.specs.Rfc3629.{encodeAll}
-use Rattle.p5_utf8_read.specs.Read.{reading}
+use Rattle.p5_utf8_read.specs.Read.{byteLimit, reading}
+
+-- "A program line or other bytes to be read as UTF-8: at most 256": by one byte more a line is refused, whatever follows it
+abbrev pub most : ℕ
+most = byteLimit + 1
+
+-- the most that a line prints: the cells' letters, of three bytes at most, a tab, `yes` and U+000A
+abbrev pub lineRoom : ℕ
+lineRoom = 3 * limit + 5
 
 -- a number of the table, of which none is over 10, in decimal digits
 unfoldable pub digits : ℕ → List ℕ

@@ -9,12 +9,18 @@ ghost use Rattle.p5_utf8.specs.Rfc3629.{encodeAll};
 ghost use Rattle.p4_rows.specs.Lookup.{sameWord};
 ghost use Rattle.p0_refusals.specs.Answers.{writes};
 ghost use mathlib.Core.List.{[]};
-ghost use Rattle.p7_line.specs.Line.{refusedLine, textLine, typed, typedLine, lineOut};
+ghost use Rattle.p7_line.specs.Line.{lineRoom, refusedLine, textLine, typed, typedLine, lineOut};
 ghost use Rattle.p7_line.specs.Method.{methodNamed, methodOf};
 use p0_refusals::Answer;
 use p0_refusals::Refusal;
 use p0_slices as slices;
 use p2_input_method::InputMethod;
+
+// So much of a line decides what it prints; `most` says the same.
+pub const MOST: usize = p5_utf8_read::BYTES + 1;
+
+// The most that a line prints; `lineRoom` says the same.
+pub const ROOM: usize = 3 * p3_cells::LIMIT + 5;
 
 // What the first line says.
 pub enum Begun {
@@ -24,7 +30,7 @@ pub enum Begun {
 
 pub fn put_refused(refusal: Refusal, out: &mut [u8], at: usize) -> usize
     requires { ⌜ at + 11 ≤ length (now out) ⌝ }
-    ensures { λ r. ⌜ (r ≡ at + length (refusedLine refusal)) × (r ≤ at + 101) × (now (out .exit) ≡ take at (now (out .entry)) ++ (refusedLine refusal ++ drop r (now (out .entry)))) ⌝ }
+    ensures { λ r. ⌜ (r ≡ at + length (refusedLine refusal)) × (r ≤ at + lineRoom) × (now (out .exit) ≡ take at (now (out .entry)) ++ (refusedLine refusal ++ drop r (now (out .entry)))) ⌝ }
 {
     match refusal {
         Refusal::Foreign => slices::put(b"refused 1\n", out, at),
@@ -84,7 +90,7 @@ pub fn method_line(line: &[u8]) -> Begun
 
 // A composed text in UTF-8.
 fn put_text(text: &[u32], out: &mut [u8], at: usize) -> usize
-    requires { ⌜ (length (now text) ≤ 32) × (allLetters (now text) ≡ true) × (at + 101 ≤ length (now out)) ⌝ }
+    requires { ⌜ (length (now text) ≤ 32) × (allLetters (now text) ≡ true) × (at + lineRoom ≤ length (now out)) ⌝ }
     ensures { λ r. ⌜ (r ≡ at + length (encodeAll (now (text .entry)))) × (r ≤ at + 96) × (now (out .exit) ≡ take at (now (out .entry)) ++ (encodeAll (now (text .entry)) ++ drop r (now (out .entry)))) ⌝ }
 {
     let mut bytes = [0u8; 96];
@@ -97,8 +103,8 @@ fn put_text(text: &[u32], out: &mut [u8], at: usize) -> usize
 
 // A composed text, a tab, and its verdict.
 fn text_line(text: &[u32], out: &mut [u8], at: usize) -> usize
-    requires { ⌜ (length (now text) ≤ 32) × (allLetters (now text) ≡ true) × (at + 101 ≤ length (now out)) ⌝ }
-    ensures { λ r. ⌜ (r ≡ at + length (textLine (now (text .entry)))) × (r ≤ at + 101) × (now (out .exit) ≡ take at (now (out .entry)) ++ (textLine (now (text .entry)) ++ drop r (now (out .entry)))) ⌝ }
+    requires { ⌜ (length (now text) ≤ 32) × (allLetters (now text) ≡ true) × (at + lineRoom ≤ length (now out)) ⌝ }
+    ensures { λ r. ⌜ (r ≡ at + length (textLine (now (text .entry)))) × (r ≤ at + lineRoom) × (now (out .exit) ≡ take at (now (out .entry)) ++ (textLine (now (text .entry)) ++ drop r (now (out .entry)))) ⌝ }
 {
     let next = put_text(text, out, at);
     if p4_spelling::accepts(text) {
@@ -109,8 +115,8 @@ fn text_line(text: &[u32], out: &mut [u8], at: usize) -> usize
 
 // Keys on a fresh composition: its text with the verdict, or the refusal of the 33rd append.
 fn keys_line(m: InputMethod, keys: &[u32], out: &mut [u8], at: usize) -> usize
-    requires { ⌜ (allLetters (now keys) ≡ true) × (at + 101 ≤ length (now out)) ⌝ }
-    ensures { λ r. ⌜ (r ≡ at + length (typedLine (typed m [] (now (keys .entry))))) × (r ≤ at + 101) × (now (out .exit) ≡ take at (now (out .entry)) ++ (typedLine (typed m [] (now (keys .entry))) ++ drop r (now (out .entry)))) ⌝ }
+    requires { ⌜ (allLetters (now keys) ≡ true) × (at + lineRoom ≤ length (now out)) ⌝ }
+    ensures { λ r. ⌜ (r ≡ at + length (typedLine (typed m [] (now (keys .entry))))) × (r ≤ at + lineRoom) × (now (out .exit) ≡ take at (now (out .entry)) ++ (typedLine (typed m [] (now (keys .entry))) ++ drop r (now (out .entry)))) ⌝ }
 {
     let mut c = p3_calls::new(m);
     let mut text = [0u32; 32];
@@ -134,8 +140,8 @@ fn keys_line(m: InputMethod, keys: &[u32], out: &mut [u8], at: usize) -> usize
 
 // A line of keys, with what it prints and its line feed.
 pub fn line_out(m: InputMethod, line: &[u8], out: &mut [u8], at: usize) -> usize
-    requires { ⌜ at + 101 ≤ length (now out) ⌝ }
-    ensures { λ r. ⌜ (r ≡ at + length (lineOut m (now (line .entry)))) × (r ≤ at + 101) × (now (out .exit) ≡ take at (now (out .entry)) ++ (lineOut m (now (line .entry)) ++ drop r (now (out .entry)))) ⌝ }
+    requires { ⌜ at + lineRoom ≤ length (now out) ⌝ }
+    ensures { λ r. ⌜ (r ≡ at + length (lineOut m (now (line .entry)))) × (r ≤ at + lineRoom) × (now (out .exit) ≡ take at (now (out .entry)) ++ (lineOut m (now (line .entry)) ++ drop r (now (out .entry)))) ⌝ }
 {
     let mut letters = [0u32; 256];
     let given = p5_utf8_read::read(line, &mut letters);

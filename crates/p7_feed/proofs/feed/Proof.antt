@@ -1,4 +1,4 @@
--- What is held and what is printed go on from byte to byte as the run's definition says; a line prints at most 101 bytes.
+-- What is held and what is printed go on from byte to byte as the run's definition says; a line has room for what it prints.
 use borrow.Author.Needs.{needs}
 use native.Mathlib.Omega.{arith}
 use mathlib.Core.Path.{_≡_, refl, sym, _∙_}
@@ -6,14 +6,15 @@ use mathlib.Core.List.{_++_, append-nil}
 use Prim.Native.Nat.{_≤_, _*_, _-_}
 use lib.ListN.{length, length-set, take, drop, drop-of-length-le}
 use lib.Seq.{length-take-le}
-use Rattle.p7_feed.specs.Run.{state, endOut, runTo, runOut, fed, lineAfter}
+use Rattle.p7_line.specs.Line.{most, lineRoom}
+use Rattle.p7_feed.specs.Run.{state, outRoom, endOut, runTo, runOut, fed, lineAfter}
 use Rattle.p7_feed.proofs.Parts.{to-end, out-end, to-held, out-held, to-dropped, out-dropped, lay-end, lay-held, lay-dropped, lay-done, past-end, printed}
 use Rattle.p7_feed.proofs.feed.Statement.{statement}
 use Rattle.p7_feed.proofs.feed.Tie as tie
 
 abbrev Inv-loop : tie.InvT-loop
 Inv-loop part line₀ out₀ len₀ phase₀ n₀ i₀ line out len phase n i =
-    (i ≤ length part) × (length line ≡ 257) × (length out ≡ 65536) × (len ≤ 257) × (n ≤ 101 * i)
+    (i ≤ length part) × (length line ≡ most) × (length out ≡ outRoom) × (len ≤ most) × (n ≤ lineRoom * i)
     × (runTo (state (take len₀ line₀) phase₀) part ≡ runTo (state (take len line) phase) (drop i part))
     × (runOut (state (take len₀ line₀) phase₀) part ≡ take n out ++ runOut (state (take len line) phase) (drop i part))
     × (lineAfter line₀ len₀ part ≡ lineAfter line len (drop i part)) × (drop n out ≡ drop n out₀)
@@ -94,7 +95,7 @@ returns c =
     let to : runTo _ part ≡ state (take (l .len) (l .line)) (l .phase) = l .inv .5 ∙ rw d refl in
     let out = printed (l .out) _ _ (l .n) (omega arith) (l .inv .6 ∙ rw d (append-nil (take (l .n) (l .out)))) (l .inv .8) in
     let len = length-take-le (l .len) (l .line) (omega arith) in
-    ((rw (to, len, ← out .0) refl, search needs, search needs), ((rw to refl, lay-done _ (l .line) (l .len) part (l .i) k (l .inv .7)), out .1))
+    ((rw (to, len, ← out .0) refl, search needs, search needs), ((sym to, lay-done _ (l .line) (l .len) part (l .i) k (l .inv .7)), out .1))
 
 pub feed-spec : {M : Type 1} → statement M
 feed-spec =
