@@ -209,14 +209,15 @@ uint32_t pasdrongel_literal(uint8_t *state, size_t size, uint32_t letter);
 uint32_t pasdrongel_remove_last(uint8_t *state, size_t size, uint32_t *text, size_t room, size_t *count);
 
 /* Takes back a tone or a mark of Telex, because its key is pressed again. `trigger` is that key, and `raw` the keys of the
- * word that were taken before it, `length` of them: the trigger is not among them. A tone goes if `raw` ends in the trigger
- * (as, then s). A mark goes if the two keys that make it stand in `raw` with none of a e i o u y after them (dd, then d;
- * aan, then a). `*behaviour` is PASDRONGEL_APPEND if the host is to append the trigger, by pasdrongel_literal and not by
- * pasdrongel_key, which would put the tone back; it is PASDRONGEL_CONSUME if the trigger does no more. Either way the
- * trigger is from then on one of the keys of the word.
+ * word that were taken before it, `length` of them: the trigger is not among them. If `raw` ends in the trigger and a cell
+ * has that tone, the last such cell loses it (as, then s). Else the last cell that has a mark of the trigger and no tone
+ * loses the mark, if the two keys that make it stand in `raw` with none of a e i o u y after them (dd, then d; aan, then a).
+ * `*behaviour` is PASDRONGEL_APPEND if the host is to append the trigger, by pasdrongel_literal and not by pasdrongel_key,
+ * which would put the tone back; it is PASDRONGEL_CONSUME if the trigger does no more.
  *
  * A host in Vietnamese mode asks at each key, before pasdrongel_key, and takes it as a key where this refuses by 5, as
- * examples/panel.c does; this call does not look at the mode. Refuses by 6 if `length` is over PASDRONGEL_WORD_LETTERS, by 1
+ * examples/panel.c does; the mode is not looked at here. The host keeps each key that was taken, triggers too; it drops the
+ * last at pasdrongel_remove_last, and all at pasdrongel_reset. Refuses by 6 if `length` is over PASDRONGEL_WORD_LETTERS, by 1
  * if `trigger` or one of `raw` is no letter, by 5 if there is nothing to undo, which is always so under VNI. `raw` may be
  * NULL if `length` is 0. `state`, `raw` and `behaviour` lie apart. */
 uint32_t pasdrongel_undo(
