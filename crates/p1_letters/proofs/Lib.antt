@@ -3,3 +3,4 @@ pub mod Alphabet
 pub mod Words
 pub mod Tones
 pub mod Vowels
+pub mod ToneOn
