@@ -4,3 +4,4 @@ pub mod Words
 pub mod Tones
 pub mod Vowels
 pub mod ToneOn
+pub mod Counts
