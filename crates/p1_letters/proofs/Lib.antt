@@ -3,3 +3,5 @@ pub mod Alphabet
 pub mod Words
 pub mod Tones
 pub mod Vowels
+pub mod ToneOn
+pub mod Counts

@@ -3,6 +3,7 @@ use Prim.Native.Nat.{ℕ, zero, suc}
 use mathlib.Core.Path.{_≡_, refl, sym, ap, _∙_}
 use mathlib.Core.Bool.{Bool, true, false}
 use mathlib.Core.List.{List, [], _∷_}
+use native.Mathlib.Omega.{arith}
 use lib.Dec.{eqb}
 use borrow.Author.Tests.{eqb-true}
 use Rattle.p0_choice.specs.Choice.{pick, each}
@@ -11,6 +12,24 @@ use Rattle.p1_letters.specs.Alphabet.{smallBy32, smallBy1, smallHigh, smallNext
 use Rattle.p1_letters.proofs.Alphabet.{every-letter}
 use Rattle.p1_unicode.specs.Ucd.{Decomposition, decompositions, classes}
 use Rattle.p1_unicode.specs.Canonical.{stepIn, stepOf, apart, classIn, classOf, reorderable, exchanged, run, ordered, canonical, CanonicallyEqual}
+
+-- two lists of the same code points
+unfoldable pub sameList : List ℕ → List ℕ → Bool
+sameList [] [] = true
+sameList [] (y ∷ ys) = false
+sameList (x ∷ xs) [] = false
+sameList (x ∷ xs) (y ∷ ys) = pick (eqb x y) (sameList xs ys) false
+
+pub same-list : (xs ys : List ℕ) → sameList xs ys ≡ true → xs ≡ ys
+unfolding sameList
+same-list [] [] e = refl
+same-list [] (y ∷ ys) e = let z : _≡_ {A = ℕ} 0 1 = cc in absurd (omega arith)
+same-list (x ∷ xs) [] e = let z : _≡_ {A = ℕ} 0 1 = cc in absurd (omega arith)
+same-list (x ∷ xs) (y ∷ ys) e = go (eqb x y) refl e (same-list xs ys)
+  where
+    go : (b : Bool) → eqb x y ≡ b → pick b (sameList xs ys) false ≡ true → (sameList xs ys ≡ true → xs ≡ ys) → x ∷ xs ≡ y ∷ ys
+    go true q h f = rw (eqb-true x y q, f h) refl
+    go false q h f = let z : _≡_ {A = ℕ} 0 1 = cc in absurd (omega arith)
 
 -- four steps take every letter apart as far as it goes
 pub apart-fully : (x : ℕ) → inAlphabet x ≡ true → each (λ (y : ℕ). eqb (stepOf y .second) 0) (apart 4 x) ≡ true

@@ -14,13 +14,10 @@ use Rattle.p1_letters.specs.Alphabet.{smallBy32, smallBy1, smallHigh, smallNext
 use Rattle.p1_letters.specs.Tones.{toneRows, toneColumn, rowOf, toneFrom, toneOn, offIn, toneOff}
 use Rattle.p1_letters.specs.Vowels.{vowels, isVowel}
 use Rattle.p1_letters.proofs.Vowels.{every-vowel}
+use Rattle.p1_letters.proofs.ToneOn.{keys}
 use Rattle.p1_unicode.specs.Ucd.{decompositions, classes}
 use Rattle.p1_unicode.specs.Canonical.{stepIn, stepOf, apart, classIn, classOf, reorderable, exchanged, run, ordered, canonical, CanonicallyEqual, toneMark}
-use Rattle.p1_unicode.proofs.Canonical.{letters-differ}
-
--- the ten tone keys
-unfoldable pub keys : List ℕ
-keys = word "sfrxj12345"
+use Rattle.p1_unicode.proofs.Canonical.{sameList, same-list, letters-differ}
 
 -- a test of a vowel and a tone key
 onKeys : (ℕ → ℕ → Bool) → ℕ → Bool
@@ -31,24 +28,6 @@ onKeys p x = each (p x) keys
 each-tone : (p : ℕ → ℕ → Bool) → ((x : ℕ) → isVowel x ≡ true → onKeys p x ≡ true) → (x t : ℕ) → isVowel x ≡ true → among t keys ≡ true → p x t ≡ true
 unfolding onKeys keys word
 each-tone p f x t e k = each-among (p x) keys (rw (f x e) tt) t k
-
--- two lists of the same code points
-sameList : List ℕ → List ℕ → Bool
-sameList [] [] = true
-sameList [] (y ∷ ys) = false
-sameList (x ∷ xs) [] = false
-sameList (x ∷ xs) (y ∷ ys) = pick (eqb x y) (sameList xs ys) false
-
-same-list : (xs ys : List ℕ) → sameList xs ys ≡ true → xs ≡ ys
-unfolding sameList
-same-list [] [] e = refl
-same-list [] (y ∷ ys) e = let z : _≡_ {A = ℕ} 0 1 = cc in absurd (omega arith)
-same-list (x ∷ xs) [] e = let z : _≡_ {A = ℕ} 0 1 = cc in absurd (omega arith)
-same-list (x ∷ xs) (y ∷ ys) e = go (eqb x y) refl e (same-list xs ys)
-  where
-    go : (b : Bool) → eqb x y ≡ b → pick b (sameList xs ys) false ≡ true → (sameList xs ys ≡ true → xs ≡ ys) → x ∷ xs ≡ y ∷ ys
-    go true q h f = rw (eqb-true x y q, f h) refl
-    go false q h f = let z : _≡_ {A = ℕ} 0 1 = cc in absurd (omega arith)
 
 module _ (x t : ℕ) (v : isVowel x ≡ true) (k : among t keys ≡ true) where
   pub toned-letter : inAlphabet (toneOn x t) ≡ true

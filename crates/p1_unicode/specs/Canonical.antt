@@ -5,9 +5,9 @@ use mathlib.Core.Bool.{Bool, true, false}
 use mathlib.Core.List.{List, [], _∷_, _++_}
 use mathlib.Core.Path.{_≡_}
 use lib.Dec.{eqb, ltb}
-use lib.ListN.{length, getD}
-use Rattle.p0_choice.specs.Choice.{pick}
-use Rattle.p1_letters.specs.Tones.{toneColumn}
+use lib.ListN.{length}
+use Rattle.p0_choice.specs.Choice.{pick, among}
+use Rattle.p0_choice.specs.Text.{word}
 use Rattle.p1_unicode.specs.Ucd.{Decomposition, step, decompositions, Class, classes}
 
 -- a code point's Decomposition_Mapping, one step; (x, 0) where it has none
@@ -61,6 +61,21 @@ canonical s = ordered (length (decomposed s)) (decomposed s)
 abbrev pub CanonicallyEqual : List ℕ → List ℕ → Type 0
 CanonicallyEqual s t = canonical s ≡ canonical t
 
--- document 01: "U+0301 sắc (s, 1), U+0300 huyền (f, 2), U+0309 hỏi (r, 3), U+0303 ngã (x, 4), U+0323 nặng (j, 5)"
+-- document 01: "U+0301 sắc (s, 1), U+0300 huyền (f, 2), U+0309 hỏi (r, 3), U+0303 ngã (x, 4), U+0323 nặng (j, 5)"; 0 for
+-- what is no tone key
 unfoldable pub toneMark : ℕ → ℕ
-toneMark t = getD (0 ∷ 0x301 ∷ 0x300 ∷ 0x309 ∷ 0x303 ∷ 0x323 ∷ []) (toneColumn t) 0
+toneMark t =
+    pick (among t (word "s1")) 0x301
+    (pick (among t (word "f2")) 0x300
+    (pick (among t (word "r3")) 0x309
+    (pick (among t (word "x4")) 0x303
+    (pick (among t (word "j5")) 0x323 0))))
+
+-- these five
+unfoldable pub toneMarks : List ℕ
+toneMarks = 0x301 ∷ 0x300 ∷ 0x309 ∷ 0x303 ∷ 0x323 ∷ []
+
+-- a sequence with the tones' marks taken off
+abbrev pub withoutTone : List ℕ → List ℕ
+withoutTone [] = []
+withoutTone (x ∷ xs) = pick (among x toneMarks) (withoutTone xs) (x ∷ withoutTone xs)

@@ -14,6 +14,7 @@ use Rattle.p0_choice.proofs.Tables.{each-among}
 use Rattle.p1_letters.specs.Alphabet.{smallBy32, smallBy1, smallHigh, smallNext, isSmall, isAsciiCapital, isCapital, inAlphabet, allLetters, asciiLower, asciiUpper}
 use Rattle.p1_letters.specs.Tones.{toneRows, toneColumn, rowOf, toneFrom, toneOn}
 use Rattle.p1_letters.proofs.Alphabet.{every-letter, alphabet-ascii}
+use Rattle.p1_letters.proofs.ToneOn.{no-tone}
 use Rattle.p3_cells.specs.Cells.{isCell, tones}
 use Rattle.p3_cells.specs.Text.{letterOf, tonedLetter, shown, textOf}
 use Rattle.p3_cells.specs.Soundness.{SoundCell}
@@ -27,10 +28,6 @@ unfolding smallBy32 smallBy1 smallHigh smallNext isSmall isAsciiCapital isCapita
 tone-stays x t e h =
     each-among (λ (k : ℕ). inAlphabet (toneOn x k)) tones
     (holds (each (λ (k : ℕ). inAlphabet (toneOn x k)) tones) (every-letter (λ (y : ℕ). each (λ (k : ℕ). inAlphabet (toneOn y k)) tones) tt tt x e)) t h
-
-no-tone : (x : ℕ) → toneOn x 0 ≡ x
-unfolding toneOn toneFrom toneColumn
-no-tone x = refl
 
 upper-stays : (x : ℕ) → inAlphabet x ≡ true → inAlphabet (asciiUpper x) ≡ true
 unfolding asciiUpper

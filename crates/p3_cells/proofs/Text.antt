@@ -9,7 +9,8 @@ use lib.ListN.{length, getD, take, drop, set, length-map}
 use borrow.Author.Tests.{eq-eqb, ne-eqb, not-true, not-false}
 use Rattle.p0_choice.proofs.Choices.{pick-true, pick-false}
 use Rattle.p1_letters.specs.Alphabet.{isCapital, asciiUpper}
-use Rattle.p1_letters.specs.Tones.{toneColumn, toneFrom, toneOn}
+use Rattle.p1_letters.specs.Tones.{toneOn}
+use Rattle.p1_letters.proofs.ToneOn.{no-tone}
 use Rattle.p3_cells.specs.Cells.{limit, blank, used}
 use Rattle.p3_cells.specs.Text.{letterOf, tonedLetter, shown, textOf}
 use Rattle.p3_cells.specs.declared.Cell.{Cell}
@@ -24,8 +25,8 @@ unfolding letterOf
 letter-marked x h = rw (ne-eqb (x .mark) 0 h) refl
 
 pub toned-none : (x : Cell) (l : ℕ) → l ≡ letterOf x → x .tone ≡ 0 → l ≡ tonedLetter x
-unfolding tonedLetter toneOn toneFrom toneColumn
-toned-none x l e h = rw (← e, h) refl
+unfolding tonedLetter
+toned-none x l e h = rw (← e, h) (sym (no-tone l))
 
 pub toned-some : (x : Cell) (l r : ℕ) → l ≡ letterOf x → r ≡ toneOn l (x .tone) → r ≡ tonedLetter x
 unfolding tonedLetter

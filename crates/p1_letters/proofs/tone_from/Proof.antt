@@ -1,4 +1,5 @@
 use mathlib.Core.Path.{refl}
+use Rattle.p0_choice.specs.Text.{word}
 use Rattle.p0_choice.proofs.Arms.{pick-none}
 use Rattle.p1_letters.specs.Tones.{toneFrom, toneColumn}
 use Rattle.p1_letters.proofs.Tones.{from-key, from-none}
@@ -8,7 +9,7 @@ use Rattle.p1_letters.proofs.tone_from.Tie as tie
 ruleset answers = (from-key, refl)
 
 pub tone-from-spec : {M : Type 1} → statement M
-unfolding toneFrom toneColumn
+unfolding toneFrom toneColumn word
 tone-from-spec =
     tie.close
     (tie.spec
