@@ -84,6 +84,10 @@ def laws(crate, root=ROOT):
     return set().union(*(names(path) for path in (root / "crates" / crate).glob("proofs/*.antt")))
 
 
+# Lower-case words, with _ between.
+LABEL = re.compile(r"[a-z0-9]+(_[a-z0-9]+)*")
+
+
 class Edit:
     """A wrong answer: `# FUNCTION, ..: the input that it answers wrongly`, perhaps `# untried`, then the replacements. In
     the place of a function a law may stand, where the edit is of a definition that the law is about."""
@@ -110,7 +114,7 @@ class Edit:
 
     def faults(self, root=ROOT):
         """Why the edit can not be tried as it stands."""
-        found = []
+        found = [] if LABEL.fullmatch(self.label) else ["its name is not lower-case words with _ between"]
         if not self.functions:
             found.append("its first line is not `# FUNCTION: the input that it answers wrongly`")
         if not self.replaced:
