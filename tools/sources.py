@@ -1,5 +1,7 @@
 """What the repository's pages are made of and held to: crates, functions with their contracts, names of definitions and
-laws, and edits. Read from the sources as text; used by tools/promises-page and tools/coverage."""
+laws, and edits. Read from the sources as text; used by tools/promises-page, tools/wrong-answers and tools/coverage."""
+import functools
+import hashlib
 import pathlib
 import re
 
@@ -84,9 +86,24 @@ def laws(crate, root=ROOT):
     return set().union(*(names(path) for path in (root / "crates" / crate).glob("proofs/*.antt")))
 
 
+@functools.lru_cache(maxsize=None)
+def text_sum(crate, root=ROOT):
+    """A sum of a crate's text: src/, specs/ and proofs/."""
+    folder, text = root / "crates" / crate, hashlib.sha256()
+    for path in sorted(path for part in ("src", "specs", "proofs") for path in (folder / part).rglob("*") if path.is_file()):
+        content = path.read_bytes()
+        text.update(f"{path.relative_to(folder)} {len(content)}\n".encode() + content)
+    return text.hexdigest()
+
+
+# Lower-case words, with _ between.
+LABEL = re.compile(r"[a-z0-9]+(_[a-z0-9]+)*")
+
+
 class Edit:
-    """A wrong answer: `# FUNCTION, ..: the input that it answers wrongly`, perhaps `# untried`, then the replacements. In
-    the place of a function a law may stand, where the edit is of a definition that the law is about."""
+    """A wrong answer: `# FUNCTION, ..: the input that it answers wrongly`, then the replacements. In the place of a function a law
+    may stand, where the edit is of a definition that the law is about. A kept one has a line `# tried SUM`, of the text on which
+    it was refused at a fact, or `# untried`."""
 
     def __init__(self, crate, path, gate):
         self.crate = crate
@@ -106,16 +123,29 @@ class Edit:
             elif line.startswith("old: "):
                 old = line[5:]
             elif line.startswith("new:"):
-                self.replaced.append((file, old))
+                self.replaced.append((file, old, line[4:].removeprefix(" ")))
+        # The gate tries its own each time.
+        self.stale = not gate and f"# tried {self.sum()}" not in lines
+
+    def sum(self):
+        """A sum of the crate's text and of what is replaced there."""
+        return hashlib.sha256(f"{text_sum(self.crate)} {self.replaced}".encode()).hexdigest()[:12]
+
+    def mark(self):
+        """Writes down that the edit was refused at a fact, on the text as it is."""
+        lines = self.path.read_text(encoding="utf-8").splitlines(keepends=True)
+        lines = [line for line in lines if not re.match(r"# (?:un)?tried\b", line)]
+        self.path.write_text("".join(lines[:1] + [f"# tried {self.sum()}\n"] + lines[1:]), encoding="utf-8")
+        self.stale = False
 
     def faults(self, root=ROOT):
         """Why the edit can not be tried as it stands."""
-        found = []
+        found = [] if LABEL.fullmatch(self.label) else ["its name is not lower-case words with _ between"]
         if not self.functions:
             found.append("its first line is not `# FUNCTION: the input that it answers wrongly`")
         if not self.replaced:
             found.append("it replaces nothing")
-        for file, old in self.replaced:
+        for file, old, _ in self.replaced:
             path = root / "crates" / self.crate / (file or "")
             if not file or not path.is_file():
                 found.append(f"there is no {file} in the crate")
