@@ -146,7 +146,7 @@ static const struct kind {
     {"upper", call_upper, R(1), NO_STATE, LETTER, 0, 0, 4, 0, 1},
     {"is_capital", call_is_capital, R(1), NO_STATE, LETTER, 0, 0, 4, 0, 1},
     {"is_white_space", call_is_white_space, R(1), NO_STATE, LETTER, 0, 0, 4, 0, 1},
-    {"is_separator", call_is_separator, R(1), NO_STATE, LETTER, 0, 0, 4, 0, 2},
+    {"is_separator", call_is_separator, R(1), NO_STATE, LETTER, 0, 0, 4, 0, 8},
     {"tone_on", call_tone_on, R(1), NO_STATE, LETTER, 0, 0, 4, 0, 1},
     {"tone_off", call_tone_off, R(1), NO_STATE, LETTER, 0, 0, 4, 0, 1},
     {"is_composer_vowel", call_is_composer_vowel, R(1), NO_STATE, LETTER, 0, 0, 4, 0, 1},
