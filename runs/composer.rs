@@ -11,7 +11,8 @@ use crate::report::{Random, Run};
 use crate::session;
 
 pub const CALLS: &[&str] = &[
-    "new", "composition_ok", "key", "text", "literal", "remove_last", "undo", "reset", "set_method", "set_mode",
+    "new", "check_composition", "composition_bytes", "method", "mode", "count", "key", "text", "literal", "remove_last", "undo",
+    "reset", "set_method", "set_mode",
 ];
 
 /// The keys that compose under each method, and letters that its steps look at or pass over.

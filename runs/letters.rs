@@ -6,8 +6,8 @@ use crate::oracle::{self, alphabet, TONE_KEYS};
 use crate::report::Run;
 
 pub const CALLS: &[&str] = &[
-    "check_letter", "lower", "upper", "tone_off", "tone_on", "is_capital", "is_white_space", "is_composer_vowel",
-    "is_speller_vowel",
+    "check_letter", "lower", "upper", "tone_off", "tone_on", "is_capital", "is_white_space", "is_separator",
+    "is_composer_vowel", "is_speller_vowel",
 ];
 
 type OneLetter = (&'static str, unsafe extern "C" fn(u32, *mut u32) -> u32, fn(char) -> u32);
