@@ -27,7 +27,7 @@ mod host {
 }
 
 /// The bytes of a composition, and the number of Telex.
-const STATE: usize = 259;
+const STATE: usize = 264;
 const TELEX: u32 = 0;
 
 /// Types the keys under Telex, a fresh composition at each RESET. The last text is left in `text`. Answers how many keys

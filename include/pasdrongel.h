@@ -61,7 +61,7 @@ extern "C" {
 /* The most bytes of a line, and of what is read as UTF-8. */
 #define PASDRONGEL_LINE_BYTES 256
 /* The bytes of a composition, and the most cells that it uses. */
-#define PASDRONGEL_COMPOSITION_BYTES 259
+#define PASDRONGEL_COMPOSITION_BYTES 264
 #define PASDRONGEL_CELLS 32
 /* With this many letters of room the calls that write a composition's text never refuse by 3. */
 #define PASDRONGEL_TEXT_ROOM 32

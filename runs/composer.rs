@@ -1,7 +1,7 @@
 //! The composer: every call on a composition against the Rust's engine, on the bytes that C lends. Each comparison is of
 //! one call: the number that it returns, the whole lent output, and every byte of the composition.
 
-use crate::composition::{answered, show_bytes, Call, Composition, Left, Oracle, State, CELLS, MOST_BYTES, ROOM, SIZE};
+use crate::composition::{answered, show_bytes, Call, Composition, Left, Oracle, State, CELLS, HEAD, MOST_BYTES, ROOM, SIZE};
 use crate::engine::bamboo::spy::Cell;
 use crate::engine::bamboo::{BambooEngine, Mode};
 use crate::input_method::InputMethod::{self, Telex, Vni};
@@ -388,9 +388,9 @@ impl Composer<'_> {
             let mut bytes = random_composition(random, count).bytes();
             if turn % 8 == 0 {
                 bytes = [(); SIZE].map(|()| random.next() as u8);
-                bytes[..3].copy_from_slice(&[0, 0, random.below(40) as u8]);
+                bytes[..HEAD].copy_from_slice(&[0, 0, random.below(40) as u8, 0, 0, 0, 0, 0]);
             } else {
-                (0..2).for_each(|_| bytes[random.below(3 + 8 * count.max(1))] = random.next() as u8);
+                (0..2).for_each(|_| bytes[random.below(HEAD + 8 * count.max(1))] = random.next() as u8);
             }
             self.others(&bytes);
             self.call(&bytes, Call::Key('s'.into(), ROOM));

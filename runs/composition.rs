@@ -10,7 +10,9 @@ use crate::oracle::{self, EMPTY, FULL, LONG, NO_UNDO, SHORT, UNSOUND, WORD_LETTE
 use std::fmt::{Debug, Formatter};
 
 pub const CELLS: usize = 32;
-pub const SIZE: usize = 3 + 8 * CELLS;
+/// The method, the mode, the count, and reserved bytes: 0 in a sound composition.
+pub const HEAD: usize = 8;
+pub const SIZE: usize = HEAD + 8 * CELLS;
 
 /// The most room of an output, and the most bytes of a composition, that the runs lend.
 pub const ROOM: usize = CELLS + 8;
@@ -91,7 +93,7 @@ impl Composition {
 
     /// What the bytes spell, or None where they are not sound.
     pub fn read(bytes: &[u8]) -> Option<Composition> {
-        let &[method, mode, count, ref cells @ ..] = bytes else { return None };
+        let &[method, mode, count, 0, 0, 0, 0, 0, ref cells @ ..] = bytes else { return None };
         if bytes.len() != SIZE || usize::from(count) > CELLS {
             return None;
         }
@@ -108,7 +110,7 @@ impl Composition {
         bytes[0] = u8::from(self.method == InputMethod::Vni);
         bytes[1] = u8::from(self.mode == Mode::English);
         bytes[2] = self.cells.len() as u8;
-        for (place, cell) in bytes[3..].chunks_mut(8).zip(&self.cells) {
+        for (place, cell) in bytes[HEAD..].chunks_mut(8).zip(&self.cells) {
             let number = |letter: Option<char>| letter.map_or(0, u32::from);
             place[..4].copy_from_slice(&u32::from(cell.base).to_le_bytes());
             place[4..6].copy_from_slice(&(number(cell.mark) as u16).to_le_bytes());

@@ -2,7 +2,7 @@
 //! them, and the composition after it. tests/fixed/README.md has the form.
 
 use crate::composer::{codes, handed, odd_cells, plain, random_composition, random_key};
-use crate::composition::{Call, Composition, Left, Oracle, CELLS, ROOM, SIZE};
+use crate::composition::{Call, Composition, Left, Oracle, CELLS, HEAD, ROOM, SIZE};
 use crate::engine::bamboo::spy::Cell;
 use crate::engine::bamboo::Mode;
 use crate::engine::spelling;
@@ -324,10 +324,10 @@ fn unsound() -> Vec<String> {
     let session = || Session::handed(&handed(Telex, &cells));
     let mut lines = Vec::new();
     for (place, values) in [
-        (0, &[1, 2, 255][..]), (1, &[1, 2, 255]), (2, &[2, 4, 32, 33, 255]), (3, &[0x62, 0x80]), (4, &[1, 2]), (5, &[1]), (6, &[1, 255]),
-        (7, &[0x61, 1]), (8, &[1]), (9, &[1, 0x31, 0x36, 0x61, 0x73, 0x80]), (10, &[1, 2, 255]), (11, &[2, 4, 0xe2]), (12, &[0, 2]),
-        (13, &[1]), (15, &[0, 2, 0xe2]), (16, &[0, 2]), (17, &[0, 0x6a, 0x7a]), (18, &[0, 2]), (27, &[1]), (31, &[1]), (33, &[0x73]),
-        (34, &[1]), (SIZE - 8, &[0x61]), (SIZE - 2, &[0x73]), (SIZE - 1, &[1]),
+        (0, &[1, 2, 255][..]), (1, &[1, 2, 255]), (2, &[2, 4, 32, 33, 255]), (3, &[1, 255]), (4, &[1]), (5, &[1]), (6, &[1]), (7, &[1, 255]),
+        (8, &[0x62, 0x80]), (9, &[1, 2]), (10, &[1]), (11, &[1, 255]), (12, &[0x61, 1]), (13, &[1]), (14, &[1, 0x31, 0x36, 0x61, 0x73, 0x80]),
+        (15, &[1, 2, 255]), (16, &[2, 4, 0xe2]), (17, &[0, 2]), (18, &[1]), (20, &[0, 2, 0xe2]), (21, &[0, 2]), (22, &[0, 0x6a, 0x7a]),
+        (23, &[0, 2]), (32, &[1]), (36, &[1]), (38, &[0x73]), (39, &[1]), (SIZE - 8, &[0x61]), (SIZE - 2, &[0x73]), (SIZE - 1, &[1]),
     ] {
         for &value in values {
             for call in [Call::CompositionOk, Call::Text(ROOM), Call::Reset] {
@@ -336,7 +336,7 @@ fn unsound() -> Vec<String> {
             lines.push(session().poke(place, value).typed("a").line());
         }
     }
-    for length in [0, 1, 2, 3, 11, SIZE - 1, SIZE + 1, SIZE + 8] {
+    for length in [0, 1, 2, 3, HEAD, HEAD + 8, SIZE - 1, SIZE + 1, SIZE + 8] {
         for call in [
             Call::CompositionOk, Call::Text(ROOM), Call::RemoveLast(ROOM), Call::Reset, Call::New(0), Call::SetMethod(0),
             Call::SetMode(0), Call::Literal('a'.into()), Call::Key('a'.into(), ROOM),

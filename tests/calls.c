@@ -11,6 +11,7 @@
 #define GUARD 0xa5
 #define MOST 512
 #define STATE PASDRONGEL_COMPOSITION_BYTES
+#define HEAD 8                /* where the cells begin, as docs/BYTES.md has it */
 #define FOREIGN 0xc4u /* a with diaeresis, a capital */
 
 static unsigned long facts, calls, failures;
@@ -409,10 +410,10 @@ static int types(uint32_t method, const char *keys, const char *expected)
     return wrote(expected) && shows(expected);
 }
 
-/* The cell i of the composition, as docs/BYTES.md has it. */
+/* The cell i of the composition. */
 static uint8_t *cell(size_t i)
 {
-    return state + 3 + 8 * i;
+    return state + HEAD + 8 * i;
 }
 
 /* Every call that is given a composition refuses this one by 10, whatever else is wrong, and leaves it. */
@@ -469,18 +470,22 @@ static void soundness_facts(void)
     unsound_at(2, 33);
     unsound_at(2, 0xff);
     unsound_at(2, 1);                         /* the second cell stands past the count */
+    for (i = 3; i < HEAD; i++) {              /* the reserved bytes are 0 */
+        unsound_at(i, 1);
+        unsound_at(i, 0xff);
+    }
     for (i = 0; i < 6; i++)
-        unsound_at(3 + i, (uint8_t)(cell(0)[i] ^ 0x10)); /* a mark that is not its base, a base that is no letter */
-    unsound_at(3 + 6, 'z');
-    unsound_at(3 + 6, 'F');
-    unsound_at(3 + 6, '6');
-    unsound_at(3 + 7, 2);
-    unsound_at(3 + 7, 0xff);
-    unsound_at(11, 0x80);
-    unsound_at(11 + 2, 1);
-    unsound_at(11 + 3, 0x80);
-    unsound_at(11 + 4, 'a');                  /* a is no mark, even as its own base */
-    for (i = 19; i < STATE; i++) {            /* every cell past the count is blank, byte by byte */
+        unsound_at(HEAD + i, (uint8_t)(cell(0)[i] ^ 0x10)); /* a mark that is not its base, a base that is no letter */
+    unsound_at(HEAD + 6, 'z');
+    unsound_at(HEAD + 6, 'F');
+    unsound_at(HEAD + 6, '6');
+    unsound_at(HEAD + 7, 2);
+    unsound_at(HEAD + 7, 0xff);
+    unsound_at(HEAD + 8, 0x80);
+    unsound_at(HEAD + 8 + 2, 1);
+    unsound_at(HEAD + 8 + 3, 0x80);
+    unsound_at(HEAD + 8 + 4, 'a');            /* a is no mark, even as its own base */
+    for (i = HEAD + 16; i < STATE; i++) {     /* every cell past the count is blank, byte by byte */
         uint8_t old = state[i];
         state[i] = 1;
         FACT(composition_ok() == PASDRONGEL_REFUSED_UNSOUND);
@@ -505,7 +510,7 @@ static void soundness_facts(void)
             cell(0)[4] = (uint8_t)(j * mark), cell(0)[5] = (uint8_t)(j * mark >> 8);
             FACT(composition_ok() == PASDRONGEL_DONE && shows(marks[i]));
         }
-    /* new takes bytes of any content, but 259 of them and a method */
+    /* new takes bytes of any content, but 264 of them and a method */
     memset(state, GUARD, sizeof state);
     for (state_size = STATE - 1; state_size <= STATE + 1; state_size += 2)
         FACT(start(PASDRONGEL_TELEX) == PASDRONGEL_REFUSED_UNSOUND);
@@ -621,9 +626,9 @@ static void change_facts(void)
     FACT(remove_last(2) == PASDRONGEL_DONE && remove_last(1) == PASDRONGEL_DONE && wrote("t"));
     FACT(remove_last(0) == PASDRONGEL_DONE && count == 0);
     FACT(remove_last(0) == PASDRONGEL_REFUSED_EMPTY);
-    state[2] = 0, state[3] = 't';
+    cell(0)[0] = 't';
     FACT(remove_last(0) == PASDRONGEL_REFUSED_UNSOUND);
-    state[3] = 0;
+    cell(0)[0] = 0;
     fresh(PASDRONGEL_TELEX);
     memcpy(before, state, STATE);
     type("DDeens");

@@ -5,6 +5,7 @@
 #include <stdlib.h>
 
 #define STATE PASDRONGEL_COMPOSITION_BYTES
+#define HEAD 8 /* where the cells begin */
 #define WRAP(name, ...) uint32_t __real_pasdrongel_##name(__VA_ARGS__); uint32_t __wrap_pasdrongel_##name(__VA_ARGS__)
 
 WRAP(key, uint8_t *state, size_t size, uint32_t key, uint32_t *out, size_t room, size_t *count);
@@ -50,7 +51,7 @@ uint32_t __wrap_pasdrongel_remove_last(uint8_t *state, size_t size, uint32_t *ou
 {
     uint32_t refusal = __real_pasdrongel_remove_last(state, size, out, room, count);
     if (fault(7) && refusal == PASDRONGEL_DONE && state[2] < 32)
-        state[3 + 8 * state[2]] = 'a'; /* the cell is not blank: unsound */
+        state[HEAD + 8 * state[2]] = 'a'; /* the cell is not blank: unsound */
     if (fault(8) && refusal == PASDRONGEL_DONE && *count > 0)
         out[0] = 'a';       /* not the text of what is left */
     return refusal;
@@ -71,15 +72,17 @@ uint32_t __wrap_pasdrongel_composition_ok(const uint8_t *state, size_t size)
         return PASDRONGEL_REFUSED_UNSOUND; /* reads past what is lent */
     if (fault(12) && size == STATE && state[2] == 33)
         return PASDRONGEL_DONE;
+    if (fault(13) && size == STATE && state[HEAD - 1] != 0)
+        return PASDRONGEL_DONE; /* a reserved byte says something */
     return __real_pasdrongel_composition_ok(state, size);
 }
 
 uint32_t __wrap_pasdrongel_read_utf8(const uint8_t *bytes, size_t length, uint32_t *letters, size_t room, size_t *count)
 {
     uint32_t refusal = __real_pasdrongel_read_utf8(bytes, length, letters, room, count);
-    if (fault(13) && refusal == PASDRONGEL_REFUSED_MALFORMED)
+    if (fault(14) && refusal == PASDRONGEL_REFUSED_MALFORMED)
         *count = 0;         /* a refusal that says a count */
-    if (fault(14) && refusal == PASDRONGEL_REFUSED_LONG && bytes[length - 1] == bytes[-1])
+    if (fault(15) && refusal == PASDRONGEL_REFUSED_LONG && bytes[length - 1] == bytes[-1])
         return PASDRONGEL_REFUSED_MALFORMED; /* reads before what is lent */
     return refusal;
 }

@@ -15,6 +15,7 @@
 #include "pasdrongel.h"
 
 #define STATE PASDRONGEL_COMPOSITION_BYTES
+#define HEAD 8 /* where the cells begin */
 #define MOST_STATE (2 * STATE)
 #define MOST_INPUT 300
 #define MOST_ROOM 300
@@ -189,10 +190,10 @@ static int is_sound(const uint8_t *state, size_t size)
 {
     static const uint8_t blank[8];
     size_t i;
-    if (size != STATE || state[0] > 1 || state[1] > 1 || state[2] > 32)
+    if (size != STATE || state[0] > 1 || state[1] > 1 || state[2] > 32 || memcmp(state + 3, blank, HEAD - 3) != 0)
         return 0;
     for (i = 0; i < 32; i++)
-        if (i < state[2] ? !is_cell(state + 3 + 8 * i) : memcmp(state + 3 + 8 * i, blank, 8) != 0)
+        if (i < state[2] ? !is_cell(state + HEAD + 8 * i) : memcmp(state + HEAD + 8 * i, blank, 8) != 0)
             return 0;
     return 1;
 }
@@ -426,14 +427,14 @@ static void remember(uint32_t key)
 static void some_state(struct given *g, uint32_t rarity)
 {
     static const uint8_t edges[] = {0, 1, 2, 31, 32, 33, 'a', 'f', 'z', 0x80, 0xff};
-    uint32_t in_use = 3 + 8 * composition[2];
+    uint32_t in_use = HEAD + 8 * composition[2];
     memset(g->state, 0, sizeof g->state);
     memcpy(g->state, composition, STATE);
     g->state_size = STATE;
     if (one_in(3 * rarity))
         g->state_size = one_in(2) ? STATE - 1 + 2 * below(2) : below(MOST_STATE + 1);
     if (one_in(rarity))
-        g->state[one_in(3) ? below(3) : below(one_in(4) ? STATE : in_use)] =
+        g->state[one_in(3) ? below(one_in(4) ? HEAD : 3) : below(one_in(4) ? STATE : in_use)] =
             one_in(2) ? edges[below(sizeof edges)] : (uint8_t)below(256);
 }
 
@@ -443,10 +444,10 @@ static void to_undo(struct given *g)
 {
     static const struct { uint8_t mark; char keys[3]; } rules[] = {
         {0x03, "aw"}, {0xe2, "aa"}, {0xea, "ee"}, {0xf4, "oo"}, {0xa1, "ow"}, {0xb0, "uw"}, {0x11, "DD"}};
-    const uint8_t *cell = composition + 3;
+    const uint8_t *cell = composition + HEAD;
     size_t i;
     for (i = below(33); i > 0 && (cell[4] | cell[6]) == 0; i--)
-        cell = composition + 3 + 8 * below(32);
+        cell = composition + HEAD + 8 * below(32);
     memcpy(g->input, typed, typed_length * sizeof *typed);
     g->length = typed_length;
     for (i = 0; i < sizeof rules / sizeof *rules; i++)

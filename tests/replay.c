@@ -17,6 +17,8 @@
 #define MOST_SHOWN 20
 #define COMPOSITION_BYTES PASDRONGEL_COMPOSITION_BYTES
 #define CELLS PASDRONGEL_CELLS
+/* Where the cells begin, as docs/BYTES.md has it. */
+#define HEAD 8
 /* The room of a session's outputs where it names no other. */
 #define ROOM 40
 
@@ -387,7 +389,7 @@ static void read_composition(uint8_t *bytes, const char *stop)
             if (bytes[2] == CELLS || strlen(word) >= sizeof cell)
                 bad_line("these are too many cells");
             strcpy(cell, word);
-            write_cell(bytes + 3 + 8 * bytes[2]++, cell);
+            write_cell(bytes + HEAD + 8 * bytes[2]++, cell);
         }
     }
 }

@@ -13,7 +13,7 @@ use Rattle.p2_input_method.specs.declared.InputMethod.the-variants.{Telex, Vni}
 use Rattle.p3_cells.specs.declared.Mode.the-variants.{Vietnamese, English}
 use Rattle.p3_cells.specs.Cells.{limit, blank, blanks}
 use Rattle.p3_cells.specs.declared.Cell.{Cell}
-use Rattle.p6_bytes.specs.Bytes.{byteAt, cellAt, cellsAt, methodOf, modeOf}
+use Rattle.p6_bytes.specs.Bytes.{head, start, byteAt, cellAt, cellsAt, methodOf, modeOf, compositionOf}
 
 -- what stands at the eight places is the cell
 pub cell-read : (b : List ℕ) (at base mark : ℕ) → base ≡ byteAt b at + byteAt b (at + 1) * 256 + byteAt b (at + 2) * 65536 + byteAt b (at + 3) * 16777216
@@ -25,6 +25,11 @@ cell-read b at base mark p q = rw (p, q) refl
 pub cells-length : (n : ℕ) (b : List ℕ) (at : ℕ) → length (cellsAt n b at) ≡ n
 cells-length zero b at = refl
 cells-length (suc n) b at = ap suc (cells-length n b (at + 8))
+
+-- what is read has all its places
+pub read-full : (b : List ℕ) → length (compositionOf b .cells) ≡ limit
+unfolding compositionOf
+read-full b = cells-length limit b head
 
 pub cells-at : (n : ℕ) (b : List ℕ) (at i : ℕ) → i < n → getD (cellsAt n b at) i blank ≡ cellAt b (at + 8 * i)
 cells-at zero b at i h = absurd (omega arith)
@@ -40,19 +45,19 @@ cells-more (suc n) b at =
     rw (e, cells-more n b (at + 8), a)
 
 -- ---- the loop of cells_of
-pub cells-start : (b : List ℕ) (z : Cell) → z ≡ blank → replicate limit z ≡ cellsAt 0 b 3 ++ blanks (limit - 0)
+pub cells-start : (b : List ℕ) (z : Cell) → z ≡ blank → replicate limit z ≡ cellsAt 0 b head ++ blanks (limit - 0)
 cells-start b z e = rw e refl
 
-pub cells-on : (b : List ℕ) (xs : List Cell) (i n : ℕ) (x : Cell) → xs ≡ cellsAt i b 3 ++ blanks (limit - i) → i < n → n ≤ limit → x ≡ cellAt b (3 + 8 * i)
-    → set xs i x ≡ cellsAt (i + 1) b 3 ++ blanks (limit - (i + 1))
+pub cells-on : (b : List ℕ) (xs : List Cell) (i n : ℕ) (x : Cell) → xs ≡ cellsAt i b head ++ blanks (limit - i) → i < n → n ≤ limit → x ≡ cellAt b (start i)
+    → set xs i x ≡ cellsAt (i + 1) b head ++ blanks (limit - (i + 1))
 cells-on b xs i n x e h l p =
     let d : limit - i ≡ suc (limit - (i + 1)) = omega arith in
-    let s : set xs i x ≡ cellsAt i b 3 ++ (x ∷ blanks (limit - (i + 1))) = rw (e, d) (set-at (cellsAt i b 3) blank (blanks (limit - (i + 1))) x i (cells-length i b 3)) in
-    let m : cellsAt (i + 1) b 3 ++ blanks (limit - (i + 1)) ≡ cellsAt i b 3 ++ (x ∷ blanks (limit - (i + 1)))
-    = rw (cells-more i b 3, p) (append-assoc (cellsAt i b 3) (cellAt b (3 + 8 * i) ∷ []) (blanks (limit - (i + 1)))) in
+    let s : set xs i x ≡ cellsAt i b head ++ (x ∷ blanks (limit - (i + 1))) = rw (e, d) (set-at (cellsAt i b head) blank (blanks (limit - (i + 1))) x i (cells-length i b head)) in
+    let m : cellsAt (i + 1) b head ++ blanks (limit - (i + 1)) ≡ cellsAt i b head ++ (x ∷ blanks (limit - (i + 1)))
+    = rw (cells-more i b head, p) (append-assoc (cellsAt i b head) (cellAt b (start i) ∷ []) (blanks (limit - (i + 1)))) in
     s ∙ sym m
 
-pub cells-done : (b : List ℕ) (xs : List Cell) (i n : ℕ) → xs ≡ cellsAt i b 3 ++ blanks (limit - i) → i ≤ n → n ≤ i → xs ≡ cellsAt n b 3 ++ blanks (limit - n)
+pub cells-done : (b : List ℕ) (xs : List Cell) (i n : ℕ) → xs ≡ cellsAt i b head ++ blanks (limit - i) → i ≤ n → n ≤ i → xs ≡ cellsAt n b head ++ blanks (limit - n)
 cells-done b xs i n e l h = let z : i ≡ n = omega arith in rw z at e
 
 -- ---- method and mode

@@ -7,7 +7,7 @@ use mathlib.Core.Bool.{Bool, true, false}
 use mathlib.Core.List.{List, [], _∷_, _++_, append-assoc}
 use native.Mathlib.Omega.{arith}
 use lib.Dec.{eqb, leb}
-use lib.ListN.{length, getD, take, drop, length-append, length-drop}
+use lib.ListN.{length, getD, take, drop, length-append, length-drop, take-append-drop}
 use lib.Seq.{getD-append-add, drop-cons, drop-drop, take-add, take-all}
 use borrow.Author.Tests.{eq-eqb, le-leb, leb-true}
 use Rattle.p0_choice.specs.Choice.{pick, each, count as numbers}
@@ -19,10 +19,10 @@ use Rattle.p3_cells.specs.declared.Composition.{Composition}
 use Rattle.p3_cells.specs.declared.Mode.{Mode}
 use Rattle.p3_cells.specs.declared.Mode.the-variants.{Vietnamese, English}
 use Rattle.p0_choice.proofs.Tests.{each-from}
-use Rattle.p6_bytes.specs.Bytes.{size, methodByte, modeByte, flagByte, cellBytes, cellsBytes, bytesOf, byteAt, cellAt, cellsAt, methodOf, modeOf, compositionOf, start, spellsCell, bytesSound}
+use Rattle.p6_bytes.specs.Bytes.{head, known, start, size, methodByte, modeByte, flagByte, cellBytes, cellsBytes, zeros, headBytes, bytesOf, byteAt, cellAt, cellsAt, methodOf, modeOf, compositionOf, spellsCell, isZero, reservedZero, bytesSound}
 use Rattle.p6_bytes.proofs.Reading.{cells-length}
 use Rattle.p6_bytes.proofs.Writing.{cell-length, bytes-length}
-use Rattle.p6_bytes.proofs.Sound.{sound-size, sound-method, sound-mode, sound-flag}
+use Rattle.p6_bytes.proofs.Sound.{sound-size, sound-method, sound-mode, sound-reserved, sound-flag}
 
 -- ---- read back
 flag-back : (t : Bool) → eqb (flagByte t) 1 ≡ t
@@ -83,9 +83,9 @@ flags-back p (x ∷ xs) n e (suc i) h =
 
 module _ (c : Composition) (n : length (c .cells) ≡ limit) where
   pub read-written : compositionOf (bytesOf c) ≡ c
-  unfolding bytesOf compositionOf
+  unfolding bytesOf headBytes compositionOf
   read-written =
-      let k : cellsAt limit (bytesOf c) 3 ≡ c .cells = rw n at (cells-back (methodByte (c .method) ∷ modeByte (c .mode) ∷ c .count ∷ []) (c .cells) 3 refl) in
+      let k : cellsAt limit (bytesOf c) head ≡ c .cells = rw n at (cells-back (headBytes c) (c .cells) head refl) in
       rw (k, method-back (c .method), mode-back (c .mode)) refl
 
   method-small : methodByte (c .method) ≤ 1
@@ -104,14 +104,14 @@ module _ (c : Composition) (n : length (c .cells) ≡ limit) where
 
   -- the form of a sound composition is sound
   pub written-sound : isSound c ≡ true → bytesSound (bytesOf c) ≡ true
-  unfolding bytesSound bytesOf spellsCell
+  unfolding bytesSound bytesOf headBytes reservedZero isZero spellsCell
   written-sound s =
       let l : length (bytesOf c) ≡ size = omega (arith, bytes-length (c .cells)) in
       rw (
         eq-eqb (length (bytesOf c)) size l,
         le-leb (methodByte (c .method)) 1 method-small,
         le-leb (modeByte (c .mode)) 1 mode-small,
-        each-from (spellsCell (bytesOf c)) limit 0 (λ i k h. le-leb _ 1 (flags-back (methodByte (c .method) ∷ modeByte (c .mode) ∷ c .count ∷ []) (c .cells) 3 refl i (omega arith))),
+        each-from (spellsCell (bytesOf c)) limit 0 (λ i k h. le-leb _ 1 (flags-back (headBytes c) (c .cells) head refl i (omega arith))),
       )
       (rw read-written s)
 
@@ -209,16 +209,18 @@ module _ (b : List ℕ) (bytes : (k : ℕ) → byteAt b k < 256) where
       x ∙ sym y ∙ sym w ∙ ap (λ (k : ℕ). take k (drop at b)) (sym e)
 
   pub written-back : bytesSound b ≡ true → bytesOf (compositionOf b) ≡ b
-  unfolding bytesOf compositionOf spellsCell
+  unfolding bytesOf headBytes compositionOf spellsCell
   written-back s =
       let l = sound-size b s in
-      let c : cellsBytes (cellsAt limit b 3) ≡ take 256 (drop 3 b) = cells-forth limit 3 (omega arith) (λ i h. leb-true _ 1 (sound-flag b s i h)) in
-      let a : take 256 (drop 3 b) ≡ drop 3 b = take-all 256 (drop 3 b) (omega (arith, length-drop 3 b)) in
-      let d0 : b ≡ byteAt b 0 ∷ drop 1 b = drop-cons b 0 0 (omega arith) in
-      let d1 : drop 1 b ≡ byteAt b 1 ∷ drop 2 b = drop-cons b 1 0 (omega arith) in
-      let d2 : drop 2 b ≡ byteAt b 2 ∷ drop 3 b = drop-cons b 2 0 (omega arith) in
-      let whole : byteAt b 0 ∷ byteAt b 1 ∷ byteAt b 2 ∷ drop 3 b ≡ b = cc in
+      let c : cellsBytes (cellsAt limit b head) ≡ take (8 * limit) (drop head b) = cells-forth limit head (omega arith) (λ i h. leb-true _ 1 (sound-flag b s i h)) in
+      let a : take (8 * limit) (drop head b) ≡ drop head b = take-all (8 * limit) (drop head b) (omega (arith, length-drop head b)) in
+      let h : take head b ≡ byteAt b 0 ∷ byteAt b 1 ∷ byteAt b 2 ∷ zeros (head - known)
+      = eight b 0 (omega arith) ∙ rw (free 3 (omega arith) (omega arith), free 4 (omega arith) (omega arith), free 5 (omega arith) (omega arith), free 6 (omega arith) (omega arith), free 7 (omega arith) (omega arith)) refl in
+      let whole : (byteAt b 0 ∷ byteAt b 1 ∷ byteAt b 2 ∷ zeros (head - known)) ++ drop head b ≡ b = ap (λ (t : List ℕ). t ++ drop head b) (sym h) ∙ take-append-drop head b in
       rw (method-forth (byteAt b 0) (sound-method b s), mode-forth (byteAt b 1) (sound-mode b s), c, a) whole
+    where
+      free : (i : ℕ) → known ≤ i → i < head → byteAt b i ≡ 0
+      free = sound-reserved b s
 
 -- ---- one form only
 pub one-form : (c d : Composition) → length (c .cells) ≡ limit → length (d .cells) ≡ limit → bytesOf c ≡ bytesOf d → c ≡ d

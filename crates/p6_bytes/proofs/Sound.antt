@@ -23,8 +23,8 @@ use Rattle.p3_cells.proofs.Holding.{length-blanks}
 use Rattle.p0_choice.proofs.Numbers.{below-or-not}
 use Rattle.p0_choice.proofs.Tests.{both-are, are-both, holds, each-from}
 use Rattle.p3_cells.proofs.Soundness.{sound-is, is-sound, cell-is, is-cell}
-use Rattle.p6_bytes.specs.Bytes.{size, byteAt, cellAt, cellsAt, methodOf, modeOf, compositionOf, start, spellsCell, bytesSound}
-use Rattle.p6_bytes.specs.Parts.{cellFits, isZero, cellsFit, zeroFrom}
+use Rattle.p6_bytes.specs.Bytes.{head, known, start, size, byteAt, cellAt, cellsAt, methodOf, modeOf, compositionOf, spellsCell, isZero, reservedZero, bytesSound}
+use Rattle.p6_bytes.specs.Parts.{cellFits, cellsFit, zeroFrom}
 use Rattle.p6_bytes.proofs.Reading.{cells-length, cells-at}
 
 each-is : (p : ℕ → Bool) (n i : ℕ) → each p (from n i) ≡ true → (j : ℕ) → i ≤ j → j < i + n → p j ≡ true
@@ -77,14 +77,15 @@ module _ (b : List ℕ) (i : ℕ) where
 
 -- ---- what sound bytes hold
 module _ (b : List ℕ) (s : bytesSound b ≡ true) where
-  tests : (length b ≡ size) × (byteAt b 0 ≤ 1) × (byteAt b 1 ≤ 1) × (each (spellsCell b) (from limit 0) ≡ true) × (isSound (compositionOf b) ≡ true)
+  tests : (length b ≡ size) × (byteAt b 0 ≤ 1) × (byteAt b 1 ≤ 1) × (reservedZero b ≡ true) × (each (spellsCell b) (from limit 0) ≡ true) × (isSound (compositionOf b) ≡ true)
   unfolding bytesSound
   tests =
       let t0 = both-are (eqb (length b) size) _ s in
       let t1 = both-are (leb (byteAt b 0) 1) _ (t0 .1) in
       let t2 = both-are (leb (byteAt b 1) 1) _ (t1 .1) in
-      let t3 = both-are (each (spellsCell b) (from limit 0)) _ (t2 .1) in
-      (eqb-true (length b) size (t0 .0), leb-true (byteAt b 0) 1 (t1 .0), leb-true (byteAt b 1) 1 (t2 .0), t3 .0, t3 .1)
+      let t3 = both-are (reservedZero b) _ (t2 .1) in
+      let t4 = both-are (each (spellsCell b) (from limit 0)) _ (t3 .1) in
+      (eqb-true (length b) size (t0 .0), leb-true (byteAt b 0) 1 (t1 .0), leb-true (byteAt b 1) 1 (t2 .0), t3 .0, t4 .0, t4 .1)
 
   pub sound-size : length b ≡ size
   sound-size = tests .0
@@ -95,11 +96,18 @@ module _ (b : List ℕ) (s : bytesSound b ≡ true) where
   pub sound-mode : byteAt b 1 ≤ 1
   sound-mode = tests .2
 
+  sound-free : reservedZero b ≡ true
+  sound-free = tests .3
+
+  pub sound-reserved : (i : ℕ) → known ≤ i → i < head → byteAt b i ≡ 0
+  unfolding reservedZero isZero
+  sound-reserved i l h = eqb-true (byteAt b i) 0 (each-is (isZero b) (head - known) known sound-free i l (omega arith))
+
   pub sound-flag : (i : ℕ) → i < limit → spellsCell b i ≡ true
-  sound-flag i h = each-is (spellsCell b) limit 0 (tests .3) i (omega arith) (omega arith)
+  sound-flag i h = each-is (spellsCell b) limit 0 (tests .4) i (omega arith) (omega arith)
 
   pub sound-composition : isSound (compositionOf b) ≡ true
-  sound-composition = tests .4
+  sound-composition = tests .5
 
   pub sound-count : byteAt b 2 ≤ limit
   unfolding compositionOf
@@ -109,11 +117,11 @@ module _ (b : List ℕ) (s : bytesSound b ≡ true) where
   unfolding compositionOf
   cell-used i h =
       let n = sound-count in
-      rw (cells-at limit b 3 i (omega arith)) at (is-cell _ (sound-is (compositionOf b) sound-composition .inUse i h))
+      rw (cells-at limit b head i (omega arith)) at (is-cell _ (sound-is (compositionOf b) sound-composition .inUse i h))
 
   pub cell-past : (i : ℕ) → byteAt b 2 ≤ i → i < limit → cellAt b (start i) ≡ blank
   unfolding compositionOf
-  cell-past i l h = rw (cells-at limit b 3 i h) at (sound-is (compositionOf b) sound-composition .past i l h)
+  cell-past i l h = rw (cells-at limit b head i h) at (sound-is (compositionOf b) sound-composition .past i l h)
 
   pub sound-cells : cellsFit b (byteAt b 2) ≡ true
   unfolding cellsFit cellFits
@@ -124,10 +132,10 @@ module _ (b : List ℕ) (s : bytesSound b ≡ true) where
   byte-past : (k : ℕ) → start (byteAt b 2) ≤ k → k < size → byteAt b k ≡ 0
   unfolding spellsCell
   byte-past k l h =
-      let i = (k - 3) / 8 in
-      let e : k ≡ start i + (k - 3) % 8 = omega arith in
+      let i = (k - head) / 8 in
+      let e : k ≡ start i + (k - head) % 8 = omega arith in
       let m : i < limit = omega arith in
-      rw e (blank-zero b i (sound-flag i m) (cell-past i (omega arith) m) ((k - 3) % 8) (omega arith))
+      rw e (blank-zero b i (sound-flag i m) (cell-past i (omega arith) m) ((k - head) % 8) (omega arith))
 
   pub sound-zero : zeroFrom b (start (byteAt b 2)) ≡ true
   unfolding zeroFrom isZero
@@ -159,6 +167,9 @@ module _ (b : List ℕ) where
       go true e = absurd (omega (arith, sound-mode b e))
       go false e = refl
 
+  pub no-reserved : (v : Bool) → v ≡ reservedZero b → not v ≡ true → false ≡ bytesSound b
+  no-reserved v q t = sym (not-yes (bytesSound b) v (λ (e : bytesSound b ≡ true). q ∙ sound-free b e) (not-true v t))
+
   module _ (n : ℕ) (p : n ≡ byteAt b 2) where
     pub no-count : limit < n → false ≡ bytesSound b
     no-count l = sym (go (bytesSound b) refl)
@@ -170,10 +181,11 @@ module _ (b : List ℕ) where
     pub no-cells : (v : Bool) → v ≡ cellsFit b n → not v ≡ true → false ≡ bytesSound b
     no-cells v q t = sym (not-yes (bytesSound b) v (λ (e : bytesSound b ≡ true). q ∙ rw p (sound-cells b e)) (not-true v t))
 
-    tests-sound : length b ≡ size → byteAt b 0 ≤ 1 → byteAt b 1 ≤ 1 → n ≤ limit → cellsFit b n ≡ true → zeroFrom b (start n) ≡ true → bytesSound b ≡ true
+    tests-sound : length b ≡ size → byteAt b 0 ≤ 1 → byteAt b 1 ≤ 1 → n ≤ limit → reservedZero b ≡ true → cellsFit b n ≡ true → zeroFrom b (start n) ≡ true
+        → bytesSound b ≡ true
     unfolding bytesSound compositionOf cellsFit cellFits zeroFrom isZero
-    tests-sound l m o f c z =
-        rw (eq-eqb (length b) size l, le-leb (byteAt b 0) 1 m, le-leb (byteAt b 1) 1 o, each-from (spellsCell b) limit 0 (λ i k h. flags i (omega arith)))
+    tests-sound l m o f w c z =
+        rw (eq-eqb (length b) size l, le-leb (byteAt b 0) 1 m, le-leb (byteAt b 1) 1 o, w, each-from (spellsCell b) limit 0 (λ i k h. flags i (omega arith)))
         (is-sound (compositionOf b) composed)
       where
         used-fits : (i : ℕ) → i < n → (spellsCell b i ≡ true) × (isCell (cellAt b (start i)) ≡ true)
@@ -188,15 +200,16 @@ module _ (b : List ℕ) where
         composed : Sound (compositionOf b)
         composed = record {
           few = rw (← p) f;
-          inUse = λ i h. rw (cells-at limit b 3 i (omega arith)) (cell-is (cellAt b (start i)) (used-fits i (omega arith) .1));
-          past = λ i k h. rw (cells-at limit b 3 i h) (zero-blank b i (past-zero i (omega arith) h));
+          inUse = λ i h. rw (cells-at limit b head i (omega arith)) (cell-is (cellAt b (start i)) (used-fits i (omega arith) .1));
+          past = λ i k h. rw (cells-at limit b head i h) (zero-blank b i (past-zero i (omega arith) h));
         }
 
     -- the last test decides
-    pub zero-decides : (r v : Bool) → length b ≡ size → byteAt b 0 ≤ 1 → byteAt b 1 ≤ 1 → n ≤ limit → v ≡ cellsFit b n → not v ≡ false → r ≡ zeroFrom b (start n)
+    pub zero-decides : (r w v : Bool) → length b ≡ size → byteAt b 0 ≤ 1 → byteAt b 1 ≤ 1 → n ≤ limit → w ≡ reservedZero b → not w ≡ false
+        → v ≡ cellsFit b n → not v ≡ false → r ≡ zeroFrom b (start n)
         → r ≡ bytesSound b
-    zero-decides r v l m o f q t e =
-        both r (bytesSound b) (λ (h : r ≡ true). tests-sound l m o f (sym q ∙ not-false v t) (sym e ∙ h)) (λ (h : bytesSound b ≡ true). e ∙ rw p (sound-zero b h))
+    zero-decides r w v l m o f g d q t e =
+        both r (bytesSound b) (λ (h : r ≡ true). tests-sound l m o f (sym g ∙ not-false w d) (sym q ∙ not-false v t) (sym e ∙ h)) (λ (h : bytesSound b ≡ true). e ∙ rw p (sound-zero b h))
       where
         both : (x y : Bool) → (x ≡ true → y ≡ true) → (y ≡ true → x ≡ true) → x ≡ y
         both true y g h = sym (g refl)
@@ -211,26 +224,26 @@ module _ (b : List ℕ) (s : bytesSound b ≡ true) where
   pub count-read : (n : ℕ) → n ≡ byteAt b 2 → n ≤ limit
   count-read n p = rw p (sound-count b s)
 
-  cells-read : cellsAt limit b 3 ≡ cellsAt (byteAt b 2) b 3 ++ blanks (limit - byteAt b 2)
+  cells-read : cellsAt limit b head ≡ cellsAt (byteAt b 2) b head ++ blanks (limit - byteAt b 2)
   cells-read =
       let n = sound-count b s in
-      ext-getD blank (cellsAt limit b 3) (cellsAt (byteAt b 2) b 3 ++ blanks (limit - byteAt b 2))
-      (cells-length limit b 3 ∙ sym (length-append (cellsAt (byteAt b 2) b 3) (blanks (limit - byteAt b 2)) ∙ rw (cells-length (byteAt b 2) b 3, length-blanks) (omega arith)))
-      (λ i h. at i (rw (cells-length limit b 3) at h))
+      ext-getD blank (cellsAt limit b head) (cellsAt (byteAt b 2) b head ++ blanks (limit - byteAt b 2))
+      (cells-length limit b head ∙ sym (length-append (cellsAt (byteAt b 2) b head) (blanks (limit - byteAt b 2)) ∙ rw (cells-length (byteAt b 2) b head, length-blanks) (omega arith)))
+      (λ i h. at i (rw (cells-length limit b head) at h))
     where
-      at : (i : ℕ) → i < limit → getD (cellsAt limit b 3) i blank ≡ getD (cellsAt (byteAt b 2) b 3 ++ blanks (limit - byteAt b 2)) i blank
+      at : (i : ℕ) → i < limit → getD (cellsAt limit b head) i blank ≡ getD (cellsAt (byteAt b 2) b head ++ blanks (limit - byteAt b 2)) i blank
       at i h =
-          cells-at limit b 3 i h
+          cells-at limit b head i h
           ∙ ⊎-elim (λ (g : i < byteAt b 2).
-          sym (List·getD-append (cellsAt (byteAt b 2) b 3) (blanks (limit - byteAt b 2)) blank i (rw (cells-length (byteAt b 2) b 3) g) ∙ cells-at (byteAt b 2) b 3 i g))
+          sym (List·getD-append (cellsAt (byteAt b 2) b head) (blanks (limit - byteAt b 2)) blank i (rw (cells-length (byteAt b 2) b head) g) ∙ cells-at (byteAt b 2) b head i g))
           (λ (g : byteAt b 2 ≤ i).
-          let l = cells-length (byteAt b 2) b 3 in
-          let d : i ≡ length (cellsAt (byteAt b 2) b 3) + (i - byteAt b 2) = omega arith in
-          cell-past b s i g h ∙ sym (ap (λ (k : ℕ). getD (cellsAt (byteAt b 2) b 3 ++ blanks (limit - byteAt b 2)) k blank) d
-          ∙ getD-append-add (cellsAt (byteAt b 2) b 3) (blanks (limit - byteAt b 2)) (i - byteAt b 2) blank ∙ blanks-at (limit - byteAt b 2) (i - byteAt b 2)))
+          let l = cells-length (byteAt b 2) b head in
+          let d : i ≡ length (cellsAt (byteAt b 2) b head) + (i - byteAt b 2) = omega arith in
+          cell-past b s i g h ∙ sym (ap (λ (k : ℕ). getD (cellsAt (byteAt b 2) b head ++ blanks (limit - byteAt b 2)) k blank) d
+          ∙ getD-append-add (cellsAt (byteAt b 2) b head) (blanks (limit - byteAt b 2)) (i - byteAt b 2) blank ∙ blanks-at (limit - byteAt b 2) (i - byteAt b 2)))
           (below-or-not i (byteAt b 2))
 
-  pub decoded : (xs : List Cell) (n : ℕ) (m : InputMethod) (o : Mode) → n ≡ byteAt b 2 → xs ≡ cellsAt n b 3 ++ blanks (limit - n) → m ≡ methodOf (byteAt b 0) → o ≡ modeOf (byteAt b 1)
+  pub decoded : (xs : List Cell) (n : ℕ) (m : InputMethod) (o : Mode) → n ≡ byteAt b 2 → xs ≡ cellsAt n b head ++ blanks (limit - n) → m ≡ methodOf (byteAt b 0) → o ≡ modeOf (byteAt b 1)
       → record { cells = xs; method = m; mode = o; count = n } ≡ compositionOf b
   unfolding compositionOf
   decoded xs n m o p q t u = rw (q, p, ← cells-read, t, u) refl

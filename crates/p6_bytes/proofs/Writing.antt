@@ -9,8 +9,7 @@ use lib.Seq.{sets-eq, length-take-le, take-at, drop-at, drop-drop, take-suc, tak
 use Rattle.p3_cells.specs.Cells.{limit, blank, blanks, used, holding}
 use Rattle.p3_cells.specs.declared.Cell.{Cell}
 use Rattle.p3_cells.specs.declared.Composition.{Composition}
-use Rattle.p6_bytes.specs.Bytes.{size, methodByte, modeByte, flagByte, cellBytes, cellsBytes, bytesOf, start}
-use Rattle.p6_bytes.specs.Parts.{zeros}
+use Rattle.p6_bytes.specs.Bytes.{head, known, start, size, methodByte, modeByte, flagByte, cellBytes, cellsBytes, zeros, headBytes, bytesOf}
 
 -- ---- a cell
 eight : (s : List ℕ) (at v0 v1 v2 v3 v4 v5 v6 v7 : ℕ) → at + 8 ≤ length s
@@ -55,26 +54,26 @@ on p x s b n m e l h =
     rw (t, g) (sym (append-assoc p x (drop m s)))
 
 -- ---- the loop of put_cells
-pub cells-put : (c : Composition) (b₀ : List ℕ) → b₀ ≡ (take 3 b₀ ++ cellsBytes (take 0 (c .cells))) ++ drop (start 0) b₀
-cells-put c b₀ = rw (append-nil (take 3 b₀)) (sym (take-append-drop 3 b₀))
+pub cells-put : (c : Composition) (b₀ : List ℕ) → b₀ ≡ (take head b₀ ++ cellsBytes (take 0 (c .cells))) ++ drop (start 0) b₀
+cells-put c b₀ = rw (append-nil (take head b₀)) (sym (take-append-drop head b₀))
 
-module _ (xs : List Cell) (b₀ b : List ℕ) (i n : ℕ) (e : b ≡ (take 3 b₀ ++ cellsBytes (take i xs)) ++ drop (start i) b₀) where
+module _ (xs : List Cell) (b₀ b : List ℕ) (i n : ℕ) (e : b ≡ (take head b₀ ++ cellsBytes (take i xs)) ++ drop (start i) b₀) where
   pub put-on : (x : Cell) (next : List ℕ) → length b₀ ≡ size → length xs ≡ limit → i < n → n ≤ limit → x ≡ getD xs i blank
       → next ≡ take (start i) b ++ (cellBytes x ++ drop (start i + 8) b)
-      → next ≡ (take 3 b₀ ++ cellsBytes (take (i + 1) xs)) ++ drop (start (i + 1)) b₀
+      → next ≡ (take head b₀ ++ cellsBytes (take (i + 1) xs)) ++ drop (start (i + 1)) b₀
   put-on x next l k h f p q =
       let t : length (take i xs) ≡ i = length-take-le i xs (omega arith) in
-      let u : length (take 3 b₀) ≡ 3 = length-take-le 3 b₀ (omega arith) in
-      let w : length (take 3 b₀ ++ cellsBytes (take i xs)) ≡ start i = omega (arith, length-append (take 3 b₀) (cellsBytes (take i xs)), bytes-length (take i xs)) in
+      let u : length (take head b₀) ≡ head = length-take-le head b₀ (omega arith) in
+      let w : length (take head b₀ ++ cellsBytes (take i xs)) ≡ start i = omega (arith, length-append (take head b₀) (cellsBytes (take i xs)), bytes-length (take i xs)) in
       let j : i < length xs = omega arith in
       let g : start i + 8 ≡ start (i + 1) = omega arith in
       let m : cellsBytes (take (i + 1) xs) ≡ cellsBytes (take i xs) ++ cellBytes x
       = rw (add-one i, take-suc xs i blank j, bytes-append (take i xs) (getD xs i blank ∷ []), append-nil (cellBytes (getD xs i blank)), p) refl in
-      let o : take (start i) b ++ (cellBytes x ++ drop (start (i + 1)) b) ≡ ((take 3 b₀ ++ cellsBytes (take i xs)) ++ cellBytes x) ++ drop (start (i + 1)) b₀
-      = on (take 3 b₀ ++ cellsBytes (take i xs)) (cellBytes x) b₀ b (start i) (start (i + 1)) e w (omega (arith, cell-length x)) in
-      q ∙ rw (g, o, m, append-assoc (take 3 b₀) (cellsBytes (take i xs)) (cellBytes x)) refl
+      let o : take (start i) b ++ (cellBytes x ++ drop (start (i + 1)) b) ≡ ((take head b₀ ++ cellsBytes (take i xs)) ++ cellBytes x) ++ drop (start (i + 1)) b₀
+      = on (take head b₀ ++ cellsBytes (take i xs)) (cellBytes x) b₀ b (start i) (start (i + 1)) e w (omega (arith, cell-length x)) in
+      q ∙ rw (g, o, m, append-assoc (take head b₀) (cellsBytes (take i xs)) (cellBytes x)) refl
 
-  pub put-done : (c : Composition) → xs ≡ c .cells → n ≡ c .count → i ≤ n → n ≤ i → b ≡ (take 3 b₀ ++ cellsBytes (used c)) ++ drop (start n) b₀
+  pub put-done : (c : Composition) → xs ≡ c .cells → n ≡ c .count → i ≤ n → n ≤ i → b ≡ (take head b₀ ++ cellsBytes (used c)) ++ drop (start n) b₀
   unfolding used
   put-done c p q l h = let z : i ≡ n = omega arith in rw (← p, ← q) (rw z at e)
 
@@ -91,8 +90,8 @@ pub zeros-start : (b : List ℕ) (at : ℕ) → b ≡ take at b ++ (zeros (at - 
 zeros-start b at = let d : at - at ≡ 0 = omega arith in rw d (sym (take-append-drop at b))
 
 module _ (b₀ b : List ℕ) (at i : ℕ) (e : b ≡ take at b₀ ++ (zeros (i - at) ++ drop i b₀)) where
-  pub zeros-on : at ≤ i → i < length b → length b ≡ length b₀ → set b i 0 ≡ take at b₀ ++ (zeros (i + 1 - at) ++ drop (i + 1) b₀)
-  zeros-on l k n =
+  pub zeros-on : (end : ℕ) → at ≤ i → i < end → end ≤ length b₀ → set b i 0 ≡ take at b₀ ++ (zeros (i + 1 - at) ++ drop (i + 1) b₀)
+  zeros-on end l k n =
       let h : i < length b₀ = omega arith in
       let d : i + 1 - at ≡ suc (i - at) = omega arith in
       let a : i + 1 ≡ suc i = omega arith in
@@ -103,12 +102,8 @@ module _ (b₀ b : List ℕ) (at i : ℕ) (e : b ≡ take at b₀ ++ (zeros (i -
       let z : zeros (i + 1 - at) ≡ zeros (i - at) ++ (0 ∷ []) = ap zeros d ∙ zeros-more (i - at) in
       g ∙ rw (z, a) (simp append-assoc)
 
-  pub zeros-done : length b ≤ i → i ≤ length b₀ → length b ≡ length b₀ → b ≡ take at b₀ ++ zeros (length b₀ - at)
-  zeros-done l h n =
-      let z : i ≡ length b₀ = omega arith in
-      let k : length b₀ ≤ length b₀ = omega arith in
-      let d : drop (length b₀) b₀ ≡ [] = drop-of-length-le b₀ k in
-      (rw z at e) ∙ rw (d, append-nil (zeros (length b₀ - at))) refl
+  pub zeros-done : (end : ℕ) → i ≤ end → end ≤ i → b ≡ take at b₀ ++ (zeros (end - at) ++ drop end b₀)
+  zeros-done end l h = let z : i ≡ end = omega arith in rw z at e
 
 -- ---- the whole
 blank-bytes : (k : ℕ) → cellsBytes (blanks k) ≡ zeros (8 * k)
@@ -118,11 +113,11 @@ blank-bytes (suc k) =
     let e : 8 * suc k ≡ suc (suc (suc (suc (suc (suc (suc (suc (8 * k)))))))) = omega arith in
     rw (e, blank-bytes k) refl
 
-head3 : (s : List ℕ) (a b d : ℕ) → 3 ≤ length s → take 3 (set (set (set s 0 a) 1 b) 2 d) ≡ a ∷ b ∷ d ∷ []
-head3 (x ∷ y ∷ z ∷ r) a b d h = refl
-head3 (x ∷ y ∷ []) a b d h = absurd (omega arith)
-head3 (x ∷ []) a b d h = absurd (omega arith)
-head3 [] a b d h = absurd (omega arith)
+three : (s : List ℕ) (a b d : ℕ) → 3 ≤ length s → take 3 (set (set (set s 0 a) 1 b) 2 d) ≡ a ∷ b ∷ d ∷ []
+three (x ∷ y ∷ z ∷ r) a b d h = refl
+three (x ∷ y ∷ []) a b d h = absurd (omega arith)
+three (x ∷ []) a b d h = absurd (omega arith)
+three [] a b d h = absurd (omega arith)
 
 module _ (c : Composition) (tidy : c ≡ holding c (used c)) where
   pub tidy-count : c .count ≡ length (used c)
@@ -137,20 +132,24 @@ module _ (c : Composition) (tidy : c ≡ holding c (used c)) where
   unfolding used
   tidy-fits l = omega (arith, tidy-count, length-take (c .count) (c .cells))
 
-  pub encoded : (s b1 b2 : List ℕ) (m o : ℕ) → length s ≡ size → length (c .cells) ≡ limit → m ≡ methodByte (c .method) → o ≡ modeByte (c .mode)
-      → length b1 ≡ size
-      → b1 ≡ (take 3 (set (set (set s 0 m) 1 o) 2 (c .count)) ++ cellsBytes (used c)) ++ drop (start (c .count)) (set (set (set s 0 m) 1 o) 2 (c .count))
-      → b2 ≡ take (start (c .count)) b1 ++ zeros (length b1 - start (c .count))
+  -- p is the head, s4 what put_zeros leaves behind it
+  pub encoded : (s s4 b1 b2 : List ℕ) (m o : ℕ) → length s ≡ size → length (c .cells) ≡ limit → m ≡ methodByte (c .method) → o ≡ modeByte (c .mode)
+      → s4 ≡ take known (set (set (set s 0 m) 1 o) 2 (c .count)) ++ (zeros (head - known) ++ drop head (set (set (set s 0 m) 1 o) 2 (c .count)))
+      → b1 ≡ (take head s4 ++ cellsBytes (used c)) ++ drop (start (c .count)) s4 → length b1 ≡ size
+      → b2 ≡ take (start (c .count)) b1 ++ (zeros (size - start (c .count)) ++ drop size b1)
       → b2 ≡ bytesOf c
-  unfolding bytesOf
-  encoded s b1 b2 m o l k p q l1 e1 e2 =
+  unfolding bytesOf headBytes
+  encoded s s4 b1 b2 m o l k p q e0 e1 l1 e2 =
       let f = tidy-fits k in
       let s3 : List ℕ = set (set (set s 0 m) 1 o) 2 (c .count) in
-      let h : take 3 s3 ≡ m ∷ o ∷ c .count ∷ [] = head3 s m o (c .count) (omega arith) in
-      let w : length (take 3 s3 ++ cellsBytes (used c)) ≡ start (c .count)
-      = omega (arith, length-append (take 3 s3) (cellsBytes (used c)), bytes-length (used c), tidy-count, ap length h) in
-      let t : take (start (c .count)) b1 ≡ take 3 s3 ++ cellsBytes (used c) = rw e1 (take-at (take 3 s3 ++ cellsBytes (used c)) _ (start (c .count)) w) in
-      let z : length b1 - start (c .count) ≡ 8 * (limit - c .count) = omega arith in
+      let h : s4 ≡ headBytes c ++ drop head s3 = e0 ∙ rw (three s m o (c .count) (omega arith), ← p, ← q) refl in
+      let t4 : take head s4 ≡ headBytes c = rw h (take-at (headBytes c) (drop head s3) head refl) in
+      let w : length (take head s4 ++ cellsBytes (used c)) ≡ start (c .count)
+      = omega (arith, length-append (take head s4) (cellsBytes (used c)), bytes-length (used c), tidy-count, ap length t4) in
+      let t : take (start (c .count)) b1 ≡ take head s4 ++ cellsBytes (used c) = rw e1 (take-at (take head s4 ++ cellsBytes (used c)) _ (start (c .count)) w) in
+      let z : size - start (c .count) ≡ 8 * (limit - c .count) = omega arith in
+      let g : length b1 ≤ size = omega arith in
+      let d : drop size b1 ≡ [] = drop-of-length-le b1 g in
       let u : cellsBytes (c .cells) ≡ cellsBytes (used c) ++ zeros (8 * (limit - c .count))
       = ap cellsBytes tidy-cells ∙ bytes-append (used c) (blanks (limit - c .count)) ∙ ap (λ (r : List ℕ). cellsBytes (used c) ++ r) (blank-bytes (limit - c .count)) in
-      e2 ∙ rw (t, z, h, u, ← p, ← q) refl
+      e2 ∙ rw (t, z, d, t4, u, append-nil (zeros (8 * (limit - c .count))), append-assoc (headBytes c) (cellsBytes (used c)) (zeros (8 * (limit - c .count)))) refl

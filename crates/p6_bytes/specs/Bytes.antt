@@ -1,10 +1,11 @@
--- Document 01, "Port order": "the composition as bytes in an order that docs/ states". The method, the mode, the count, then
--- 32 cells of 8 bytes: the base in four and the mark in two, low byte first, the tone, the capital flag.
-use Prim.Native.Nat.{ℕ, zero, suc, _+_, _*_, _/_, _%_}
+-- Document 01, "Port order": "the composition as bytes in an order that docs/ states". A head of 8 bytes: the method, the
+-- mode, the count, and bytes kept for settings to come. Then 32 cells of 8 bytes: the base in four and the mark in two, low
+-- byte first, the tone, the capital flag.
+use Prim.Native.Nat.{ℕ, zero, suc, _+_, _*_, _-_, _/_, _%_}
 use mathlib.Core.Bool.{Bool, true, false}
 use mathlib.Core.List.{List, [], _∷_, _++_}
 use lib.Dec.{eqb, leb}
-use lib.ListN.{length, getD}
+use lib.ListN.{length, getD, replicate}
 use Rattle.p0_choice.specs.Choice.{pick, each, count as from}
 use Rattle.p2_input_method.specs.declared.InputMethod.{InputMethod}
 use Rattle.p2_input_method.specs.declared.InputMethod.the-variants.{Telex, Vni}
@@ -14,8 +15,19 @@ use Rattle.p3_cells.specs.declared.Composition.{Composition}
 use Rattle.p3_cells.specs.declared.Mode.{Mode}
 use Rattle.p3_cells.specs.declared.Mode.the-variants.{Vietnamese, English}
 
+abbrev pub head : ℕ
+head = 8
+
+-- how many bytes of the head say something; those from here on are reserved
+abbrev pub known : ℕ
+known = 3
+
+-- where the cell at place i starts
+abbrev pub start : ℕ → ℕ
+start i = head + 8 * i
+
 abbrev pub size : ℕ
-size = 259
+size = head + 8 * limit
 
 -- ---- a composition, written
 abbrev pub methodByte : InputMethod → ℕ
@@ -37,8 +49,14 @@ abbrev pub cellsBytes : List Cell → List ℕ
 cellsBytes [] = []
 cellsBytes (x ∷ xs) = cellBytes x ++ cellsBytes xs
 
+abbrev pub zeros : ℕ → List ℕ
+zeros n = replicate {A = ℕ} n 0
+
+unfoldable pub headBytes : Composition → List ℕ
+headBytes c = methodByte (c .method) ∷ modeByte (c .mode) ∷ c .count ∷ zeros (head - known)
+
 unfoldable pub bytesOf : Composition → List ℕ
-bytesOf c = methodByte (c .method) ∷ modeByte (c .mode) ∷ c .count ∷ cellsBytes (c .cells)
+bytesOf c = headBytes c ++ cellsBytes (c .cells)
 
 -- ---- and read
 abbrev pub byteAt : List ℕ → ℕ → ℕ
@@ -65,20 +83,25 @@ modeOf x = pick (eqb x 0) Vietnamese English
 
 unfoldable pub compositionOf : List ℕ → Composition
 compositionOf b =
-    record { cells = cellsAt limit b 3; method = methodOf (byteAt b 0); mode = modeOf (byteAt b 1); count = byteAt b 2 }
+    record { cells = cellsAt limit b head; method = methodOf (byteAt b 0); mode = modeOf (byteAt b 1); count = byteAt b 2 }
 
 -- ---- "Bytes of another length, or that spell no method, mode or cell, are not sound."
--- where the cell at place i starts
-abbrev pub start : ℕ → ℕ
-start i = 3 + 8 * i
-
 -- a flag that is neither on nor off spells no cell
 unfoldable pub spellsCell : List ℕ → ℕ → Bool
 spellsCell b i = leb (byteAt b (start i + 7)) 1
+
+unfoldable pub isZero : List ℕ → ℕ → Bool
+isZero b i = eqb (byteAt b i) 0
+
+-- the reserved bytes are 0
+unfoldable pub reservedZero : List ℕ → Bool
+reservedZero b = each (isZero b) (from (head - known) known)
 
 unfoldable pub bytesSound : List ℕ → Bool
 bytesSound b =
     pick (eqb (length b) size)
     (pick (leb (byteAt b 0) 1)
-    (pick (leb (byteAt b 1) 1) (pick (each (spellsCell b) (from limit 0)) (isSound (compositionOf b)) false) false) false)
+    (pick (leb (byteAt b 1) 1)
+    (pick (reservedZero b)
+    (pick (each (spellsCell b) (from limit 0)) (isSound (compositionOf b)) false) false) false) false)
     false

@@ -7,15 +7,20 @@ ghost use lib.Dec.{eqb};
 ghost use lib.ListN.{length, take, drop};
 ghost use Rattle.p0_choice.specs.Choice.{pick};
 ghost use Rattle.p3_cells.specs.Cells.{limit, blanks, used, holding};
-ghost use Rattle.p6_bytes.specs.Bytes.{size, methodByte, modeByte, flagByte, cellBytes, cellsBytes, bytesOf, cellAt, start, methodOf, modeOf, cellsAt, compositionOf, bytesSound};
-ghost use Rattle.p6_bytes.specs.Parts.{cellFits, cellsFit, zeroFrom, zeros};
+ghost use Rattle.p6_bytes.specs.Bytes.{head, size, methodByte, modeByte, flagByte, cellBytes, cellsBytes, zeros, bytesOf, cellAt, start, methodOf, modeOf, cellsAt, compositionOf, reservedZero, bytesSound};
+ghost use Rattle.p6_bytes.specs.Parts.{cellFits, cellsFit, zeroFrom};
 use p2_input_method::InputMethod;
 use p3_cells as cells;
 use p3_cells::Cell;
 use p3_cells::Composition;
 use p3_cells::Mode;
 
-pub const SIZE: usize = 259;
+pub const HEAD: usize = 8;
+
+pub const SIZE: usize = HEAD + 8 * cells::LIMIT;
+
+// The bytes of the head that say something; the others are reserved.
+const KNOWN: usize = 3;
 
 // ---- reading
 
@@ -94,11 +99,29 @@ fn zero_from(b: &[u8], at: usize) -> bool
     most == 0
 }
 
+// Whether the last five of eight bytes are 0: all are read as one number, which is below 256 to the third then. LLVM makes
+// one load and one comparison of it.
+fn last_zero(b0: u8, b1: u8, b2: u8, b3: u8, b4: u8, b5: u8, b6: u8, b7: u8) -> bool
+    ensures { λ r. ⌜ r ≡ eqb (b3 + (b4 + (b5 + (b6 + b7)))) 0 ⌝ }
+{
+    let low = (b0 as u64) + (b1 as u64) * 256 + (b2 as u64) * 65536 + (b3 as u64) * 16777216;
+    let more = low + (b4 as u64) * 4294967296 + (b5 as u64) * 1099511627776;
+    more + (b6 as u64) * 281474976710656 + (b7 as u64) * 72057594037927936 < 16777216
+}
+
+// The bytes of the head from KNOWN on.
+fn reserved_zero(b: &[u8]) -> bool
+    requires { ⌜ length (now b) ≡ size ⌝ }
+    ensures { λ r. ⌜ r ≡ reservedZero (now (b .entry)) ⌝ }
+{
+    last_zero(b[0], b[1], b[2], b[3], b[4], b[5], b[6], b[7])
+}
+
 fn cell_fits(b: &[u8], i: usize) -> bool
     requires { ⌜ (length (now b) ≡ size) × (i + 1 ≤ limit) ⌝ }
     ensures { λ r. ⌜ r ≡ cellFits (now (b .entry)) i ⌝ }
 {
-    let at = 3 + 8 * i;
+    let at = HEAD + 8 * i;
     if 1 < b[at + 7] {
         return false;
     }
@@ -127,6 +150,9 @@ pub fn bytes_ok(b: &[u8]) -> bool
     if b.len() != SIZE {
         return false;
     }
+    if !reserved_zero(b) {
+        return false;
+    }
     if 1 < b[0] {
         return false;
     }
@@ -140,20 +166,20 @@ pub fn bytes_ok(b: &[u8]) -> bool
     if !cells_fit(b, n) {
         return false;
     }
-    zero_from(b, 3 + 8 * n)
+    zero_from(b, HEAD + 8 * n)
 }
 
 // ---- the composition
 
-fn cells_of(b: &[u8], n: usize) -> [Cell; 32]
+fn cells_of(b: &[u8], n: usize) -> [Cell; cells::LIMIT]
     requires { ⌜ (length (now b) ≡ size) × (n ≤ limit) ⌝ }
-    ensures { λ r. ⌜ r ≡ cellsAt n (now (b .entry)) 3 ++ blanks (limit - n) ⌝ }
+    ensures { λ r. ⌜ r ≡ cellsAt n (now (b .entry)) head ++ blanks (limit - n) ⌝ }
 {
     let z = cells::blank();
-    let mut xs = [z; 32];
+    let mut xs = [z; cells::LIMIT];
     let mut i: usize = 0;
     while i < n {
-        xs[i] = cell_at(b, 3 + 8 * i);
+        xs[i] = cell_at(b, HEAD + 8 * i);
         i += 1;
     }
     xs
@@ -220,23 +246,23 @@ fn put_cell(b: &mut [u8], at: usize, x: Cell)
 
 fn put_cells(c: Composition, b: &mut [u8])
     requires { ⌜ (length (now b) ≡ size) × (c .count ≤ limit) ⌝ }
-    ensures { λ _. ⌜ (length (now (b .exit)) ≡ size) × (now (b .exit) ≡ (take 3 (now (b .entry)) ++ cellsBytes (used c)) ++ drop (start (c .count)) (now (b .entry))) ⌝ }
+    ensures { λ _. ⌜ (length (now (b .exit)) ≡ size) × (now (b .exit) ≡ (take head (now (b .entry)) ++ cellsBytes (used c)) ++ drop (start (c .count)) (now (b .entry))) ⌝ }
 {
     let n = c.count;
     let mut i: usize = 0;
     while i < n {
         let x = c.cells[i];
-        put_cell(b, 3 + 8 * i, x);
+        put_cell(b, HEAD + 8 * i, x);
         i += 1;
     }
 }
 
-fn put_zeros(b: &mut [u8], at: usize)
-    requires { ⌜ at ≤ length (now b) ⌝ }
-    ensures { λ _. ⌜ now (b .exit) ≡ take at (now (b .entry)) ++ zeros (length (now (b .entry)) - at) ⌝ }
+fn put_zeros(b: &mut [u8], at: usize, end: usize)
+    requires { ⌜ (at ≤ end) × (end ≤ length (now b)) ⌝ }
+    ensures { λ _. ⌜ now (b .exit) ≡ take at (now (b .entry)) ++ (zeros (end - at) ++ drop end (now (b .entry))) ⌝ }
 {
     let mut i = at;
-    while i < b.len() {
+    while i < end {
         b[i] = 0;
         i += 1;
     }
@@ -253,6 +279,7 @@ pub fn encode(c: Composition, b: &mut [u8])
     b[0] = method_byte(m);
     b[1] = mode_byte(o);
     b[2] = n as u8;
+    put_zeros(b, KNOWN, HEAD);
     put_cells(c, b);
-    put_zeros(b, 3 + 8 * n);
+    put_zeros(b, HEAD + 8 * n, SIZE);
 }

@@ -19,7 +19,7 @@ use Rattle.p3_calls.specs.Settings.{created}
 use Rattle.p3_key.proofs.Kept.{key-sound}
 use Rattle.p3_undo.proofs.Kept.{undo-sound}
 use Rattle.p6_bytes.specs.Bytes.{compositionOf, methodOf, bytesOf, bytesSound}
-use Rattle.p6_bytes.proofs.Reading.{cells-length}
+use Rattle.p6_bytes.proofs.Reading.{read-full}
 use Rattle.p6_bytes.proofs.Round.{written-sound}
 use Rattle.p6_bytes.proofs.Sound.{sound-composition}
 use Rattle.p6_bytes.proofs.Writing.{tidy-count}
@@ -47,8 +47,7 @@ module _ (b : List ℕ) (h : bytesSound b ≡ true) where
   on-sound s t k = after-sound (answerOn b s) b (s .comp) h t k
 
   full : length (compositionOf b .cells) ≡ limit
-  unfolding compositionOf
-  full = cells-length limit b 3
+  full = read-full b
 
   or-sound : (n : ℕ) (p : Changed) → isSound (p .comp) ≡ true → isSound (orUnsound b n p .comp) ≡ true
   unfolding orUnsound

@@ -32,7 +32,7 @@ use Rattle.p3_undo.specs.declared.Undoing.the-variants.{Nothing, Tone, Mark}
 use Rattle.p3_undo.specs.declared.Undone.{Undone}
 use Rattle.p6_bytes.specs.Bytes.{compositionOf, bytesSound, methodOf}
 use Rattle.p6_bytes.proofs.Sound.{sound-composition}
-use Rattle.p6_bytes.proofs.Reading.{cells-length}
+use Rattle.p6_bytes.proofs.Reading.{read-full}
 use Rattle.p6_composition.specs.Steps.{undoneStep}
 use Rattle.p6_composition.specs.Calls.{keyStep, resetStep, literalStep, popStep, undoStep, orUnsound, methodStep, modeStep}
 
@@ -51,8 +51,7 @@ unfolding empty used holding
 empty-tidy m o = refl
 
 pub read-tidy : (b : List ℕ) → bytesSound b ≡ true → Tidy (compositionOf b)
-unfolding compositionOf
-read-tidy b s = holding-used (compositionOf b) (sound-composition b s) (cells-length limit b 3)
+read-tidy b s = holding-used (compositionOf b) (sound-composition b s) (read-full b)
 
 changed-tidy : (a : Answer) (c d : Composition) → Tidy c → Tidy d → Tidy (changed a c d .comp)
 changed-tidy a c d p q = changed-keeps Tidy a c d p (λ n e. q)

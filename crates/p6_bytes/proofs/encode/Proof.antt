@@ -1,5 +1,5 @@
 use Prim.Native.Nat.{_≤_}
-use mathlib.Core.Path.{_≡_}
+use mathlib.Core.Path.{_≡_, _∙_}
 use lib.ListN.{length, length-map, length-set}
 use native.Mathlib.Omega.{arith}
 use borrow.Author.Needs.{needs}
@@ -21,13 +21,19 @@ encode-spec =
     (λ c κs. search needs) (λ c. search needs) (λ c κs. search needs) (λ c. search needs)
     (λ c. let f = fits (c .before .before .before) in search needs)
     (λ c. search needs)
-    (λ c κs. let f = fits (c .before .before .before .before) in (simp length-set (search needs), search needs))
-    (λ c. let f = fits (c .before .before .before .before .before .before .before .before) in search needs)
-    (λ c. let f = fits (c .before .before .before .before .before .before .before .before) in search needs)
-    (λ c κs. let f = fits (c .before .before .before .before .before .before .before .before) in omega (arith, c .before .before .before .put-cells .ensures .0))
+    (λ c κs. (search needs, simp length-set (search needs)))
+    (λ c κs.
+    let z = c .before .before .before .before .before .before .before .before in
+    let f = fits z in
+    ((simp length-set at (c .before .before .before .put-zeros .kept .0)) ∙ z .pre .0, search needs))
+    (λ c. let f = fits (c .before .before .before .before .before .before .before .before .before .before .before .before) in search needs)
+    (λ c. let f = fits (c .before .before .before .before .before .before .before .before .before .before .before .before) in search needs)
+    (λ c κs. let f = fits (c .before .before .before .before .before .before .before .before .before .before .before .before) in (omega arith, omega (arith, c .before .before .before .put-cells .ensures .0)))
     (λ c. search needs)
     (λ c.
-    let z = c .before .before .before .before .before .before .before .before .before .before .before in
+    let z = c .before .before .before .before .before .before .before .before .before .before .before .before .before .before .before in
     let p = c .before .before .before .before .before .before .put-cells in
-    encoded (z .args .c) (z .pre .1) (z .args .b .now) _ _ _ _ (z .pre .0) (cells-all z) (c .before .before .before .before .before .before .before .before .before .method-byte .ensures)
-    (c .before .before .before .before .before .before .before .before .mode-byte .ensures) (p .ensures .0) (p .ensures .1) (c .before .before .put-zeros .ensures)))
+    encoded (z .args .c) (z .pre .1) (z .args .b .now) _ _ _ _ _ (z .pre .0) (cells-all z)
+    (c .before .before .before .before .before .before .before .before .before .before .before .before .before .method-byte .ensures)
+    (c .before .before .before .before .before .before .before .before .before .before .before .before .mode-byte .ensures)
+    (c .before .before .before .before .before .before .before .before .before .before .put-zeros .ensures) (p .ensures .1) (p .ensures .0) (c .before .before .put-zeros2 .ensures)))

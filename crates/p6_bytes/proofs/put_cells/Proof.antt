@@ -4,13 +4,13 @@ use mathlib.Core.Path.{_≡_, refl, _∙_}
 use mathlib.Core.List.{_++_}
 use lib.ListN.{length, take, drop, length-map}
 use Rattle.p3_cells.specs.Cells.{limit}
-use Rattle.p6_bytes.specs.Bytes.{size, cellsBytes, start}
+use Rattle.p6_bytes.specs.Bytes.{head, size, cellsBytes, start}
 use Rattle.p6_bytes.proofs.Writing.{cells-put, put-on, put-done}
 use Rattle.p6_bytes.proofs.put_cells.Statement.{statement}
 use Rattle.p6_bytes.proofs.put_cells.Tie as tie
 
 abbrev Inv-loop : tie.InvT-loop
-Inv-loop b₀ c n i₀ b i = (i ≤ n) × (length b ≡ size) × (b ≡ (take 3 b₀ ++ cellsBytes (take i (c .cells))) ++ drop (start i) b₀)
+Inv-loop b₀ c n i₀ b i = (i ≤ n) × (length b ≡ size) × (b ≡ (take head b₀ ++ cellsBytes (take i (c .cells))) ++ drop (start i) b₀)
 
 abbrev μ-loop : tie.MeasureT-loop
 μ-loop b₀ c n i₀ b i = n - i

@@ -5,7 +5,8 @@ use mathlib.Core.Bool.{false}
 use lib.Dec.{eqb}
 use lib.ListN.{length}
 use Rattle.p0_choice.specs.Choice.{pick, each, count as numbers}
-use Rattle.p6_bytes.specs.Parts.{isZero, zeroFrom}
+use Rattle.p6_bytes.specs.Bytes.{isZero}
+use Rattle.p6_bytes.specs.Parts.{zeroFrom}
 use Rattle.p6_bytes.proofs.Tests.{zero-start, zero-on, zero-done}
 use Rattle.p6_bytes.proofs.zero_from.Statement.{statement}
 use Rattle.p6_bytes.proofs.zero_from.Tie as tie
