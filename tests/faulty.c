@@ -127,8 +127,8 @@ uint32_t __wrap_pasdrongel_count(const uint8_t *state, size_t size, size_t *coun
 uint32_t __wrap_pasdrongel_is_separator(uint32_t letter, uint32_t *yes)
 {
     uint32_t refusal = __real_pasdrongel_is_separator(letter, yes);
-    if (fault(21) && letter == ':')
-        *yes = 0;
+    if (fault(21) && refusal == PASDRONGEL_DONE && letter > ' ')
+        *yes = 0; /* white space alone */
     if (fault(22) && refusal != PASDRONGEL_DONE)
         *yes = 0; /* a refusal that answers */
     return refusal;

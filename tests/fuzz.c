@@ -141,7 +141,7 @@ static const struct kind {
     {"upper", call_upper, R(1), NO_STATE, LETTER, 0, 0, 4, 0, 1},
     {"is_capital", call_is_capital, R(1), NO_STATE, LETTER, 0, 0, 4, 0, 1},
     {"is_white_space", call_is_white_space, R(1), NO_STATE, LETTER, 0, 0, 4, 0, 1},
-    {"is_separator", call_is_separator, R(1), NO_STATE, LETTER, 0, 0, 4, 0, 1},
+    {"is_separator", call_is_separator, R(1), NO_STATE, LETTER, 0, 0, 4, 0, 2},
     {"tone_on", call_tone_on, R(1), NO_STATE, LETTER, 0, 0, 4, 0, 1},
     {"tone_off", call_tone_off, R(1), NO_STATE, LETTER, 0, 0, 4, 0, 1},
     {"is_composer_vowel", call_is_composer_vowel, R(1), NO_STATE, LETTER, 0, 0, 4, 0, 1},
@@ -505,7 +505,7 @@ static void prepare(const struct kind *kind, struct given *g)
     case NO_NUMBER:
         break;
     case LETTER:
-        g->a = one_in(4) ? any_number() : any_letter();
+        g->a = one_in(4) ? any_number() : one_in(2) ? any_letter() : a_key();
         break;
     case KEY:
         g->a = a_key();
