@@ -2,3 +2,4 @@ pub mod Steps
 pub mod Tidy
 pub mod Calls
 pub mod Kept
+pub mod Counted
