@@ -99,14 +99,16 @@ class Edit:
         self.says = head[2].strip().rstrip(".") if head else ""
         self.tried = gate or "# untried" not in lines
         self.replaced = []
-        file = old = None
+        where, file, old = crate, None, None
         for line in lines:
-            if line.startswith("file: "):
+            if line.startswith("crate: "):
+                where = line[7:]
+            elif line.startswith("file: "):
                 file = line[6:]
             elif line.startswith("old: "):
                 old = line[5:]
             elif line.startswith("new:"):
-                self.replaced.append((file, old))
+                self.replaced.append((where, file, old))
 
     def faults(self, root=ROOT):
         """Why the edit can not be tried as it stands."""
@@ -115,10 +117,10 @@ class Edit:
             found.append("its first line is not `# FUNCTION: the input that it answers wrongly`")
         if not self.replaced:
             found.append("it replaces nothing")
-        for file, old in self.replaced:
-            path = root / "crates" / self.crate / (file or "")
+        for where, file, old in self.replaced:
+            path = root / "crates" / where / (file or "")
             if not file or not path.is_file():
-                found.append(f"there is no {file} in the crate")
+                found.append(f"there is no {file} in {where}")
             elif not old or path.read_text(encoding="utf-8").count(old) != 1:
                 found.append(f"its old line does not stand in {file} once")
         return found

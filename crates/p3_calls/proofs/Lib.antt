@@ -2,3 +2,4 @@ pub mod Settings
 pub mod Literal
 pub mod Output
 pub mod Kept
+pub mod Room
