@@ -102,8 +102,8 @@ LABEL = re.compile(r"[a-z0-9]+(_[a-z0-9]+)*")
 
 class Edit:
     """A wrong answer: `# FUNCTION, ..: the input that it answers wrongly`, then the replacements. In the place of a function a law
-    may stand, where the edit is of a definition that the law is about. A kept one has a line `# tried SUM`, of the text on which
-    it was refused at a fact, or `# untried`."""
+    may stand, where the edit is of a definition that the law is about. A line `crate: NAME` has the replacements after it made in a
+    crate below. A kept one has a line `# tried SUM`, of the text on which it was refused at a fact, or `# untried`."""
 
     def __init__(self, crate, path, gate):
         self.crate = crate
@@ -116,20 +116,25 @@ class Edit:
         self.says = head[2].strip().rstrip(".") if head else ""
         self.tried = gate or "# untried" not in lines
         self.replaced = []
-        file = old = None
+        where, file, old = crate, None, None
         for line in lines:
-            if line.startswith("file: "):
+            if line.startswith("crate: "):
+                where = line[7:]
+            elif line.startswith("file: "):
                 file = line[6:]
             elif line.startswith("old: "):
                 old = line[5:]
             elif line.startswith("new:"):
-                self.replaced.append((file, old, line[4:].removeprefix(" ")))
+                self.replaced.append((where, file, old, line[4:].removeprefix(" ")))
+        # The crates that it changes below the one that must be refused: they must still be proved.
+        self.below = sorted({where for where, *_ in self.replaced} - {crate})
         # The gate tries its own each time.
         self.stale = not gate and f"# tried {self.sum()}" not in lines
 
     def sum(self):
-        """A sum of the crate's text and of what is replaced there."""
-        return hashlib.sha256(f"{text_sum(self.crate)} {self.replaced}".encode()).hexdigest()[:12]
+        """A sum of the text of the crate, and of those that the edit changes below it, and of what is replaced there."""
+        text = " ".join(text_sum(crate) for crate in [self.crate, *self.below])
+        return hashlib.sha256(f"{text} {self.replaced}".encode()).hexdigest()[:12]
 
     def mark(self):
         """Writes down that the edit was refused at a fact, on the text as it is."""
@@ -145,10 +150,10 @@ class Edit:
             found.append("its first line is not `# FUNCTION: the input that it answers wrongly`")
         if not self.replaced:
             found.append("it replaces nothing")
-        for file, old, _ in self.replaced:
-            path = root / "crates" / self.crate / (file or "")
+        for where, file, old, _ in self.replaced:
+            path = root / "crates" / where / (file or "")
             if not file or not path.is_file():
-                found.append(f"there is no {file} in the crate")
+                found.append(f"there is no {file} in {where}")
             elif not old or path.read_text(encoding="utf-8").count(old) != 1:
                 found.append(f"its old line does not stand in {file} once")
         return found

@@ -3,3 +3,4 @@ pub mod Literal
 pub mod Output
 pub mod Kept
 pub mod Back
+pub mod Room

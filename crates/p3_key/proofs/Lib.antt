@@ -5,3 +5,4 @@ pub mod Right
 pub mod Owner
 pub mod Kept
 pub mod Only
+pub mod Room

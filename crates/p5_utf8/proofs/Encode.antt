@@ -3,7 +3,7 @@ use Prim.Native.Nat.{ℕ, _+_, _/_, _%_, _<_, _≤_}
 use mathlib.Core.Path.{_≡_, refl, ap}
 use mathlib.Core.Bool.{Bool, true, false}
 use mathlib.Core.List.{List, [], _∷_}
-use mathlib.Core.Logic.{_⊎_, inl, inr}
+use mathlib.Core.Logic.{_⊎_, inl, inr, ⊎-elim}
 use native.Mathlib.Omega.{arith}
 use lib.Dec.{ltb}
 use lib.ListN.{length, length-append}
@@ -74,6 +74,9 @@ module _ (x : ℕ) where
       go false true v p q r h = let z : _≡_ {A = ℕ} 0 1 = cc in absurd (omega arith)
       go false false true p q r h = inr (ltb-false x 0xe000 q, ltb-true x 0x110000 r)
       go false false false p q r h = let z : _≡_ {A = ℕ} 0 1 = cc in absurd (omega arith)
+
+pub scalar-below : (x : ℕ) → isScalar x ≡ true → x < 0x110000
+scalar-below x e = ⊎-elim (λ (h : x < 0xd800). omega arith) (λ (h : (0xe000 ≤ x) × (x < 0x110000)). h .1) (scalar-cases x e)
 
 -- a string has as many bytes as characters at least
 pub many-bytes : (xs : List ℕ) → length xs ≤ length (encodeAll xs)

@@ -232,6 +232,10 @@ there x s d =
     (λ l h. rw (← row-3 x l h) (there-3 x s l h d))
     (λ l. rw (← row-4 x l) (there-4 x s l (⊎-elim (λ h. omega arith) (λ h. h .1) (scalar-cases x d))))
 
+-- `encode` is of the scalar values: the bytes that it gives are a character of exactly these
+pub domain : (x : ℕ) (s : List ℕ) → isScalar x ≡ true ↔ charOf (encode x ++ s) ≡ Scalar x (length (encode x))
+domain x s = (λ d. there x s d, λ e. found (encode x ++ s) x (length (encode x)) e .0)
+
 -- ---- at a place of bytes
 module _ (s : List ℕ) (i : ℕ) where
   -- the character at a place is a scalar value whose encoding stands there

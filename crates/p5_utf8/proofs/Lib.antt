@@ -1,6 +1,6 @@
 pub mod Grammar
 pub mod CharAt
 pub mod Encode
-pub mod Putting
 pub mod Exact
+pub mod Putting
 pub mod Examples

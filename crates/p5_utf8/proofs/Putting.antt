@@ -1,13 +1,16 @@
 -- Each way through `put`: the bytes of a code point fit where they go, and are its row of the table.
 use Prim.Native.Nat.{ℕ, suc, _+_, _/_, _%_, _<_, _≤_}
 use mathlib.Core.Path.{_≡_, ap, _∙_}
+use mathlib.Core.Bool.{true}
 use mathlib.Core.List.{List, [], _∷_, _++_, append-assoc}
 use native.Mathlib.Omega.{arith}
 use native.Mathlib.Numerals.{add-one}
 use lib.ListN.{length, take, drop, set}
-use lib.Seq.{sets-eq, lt-length-set}
-use Rattle.p5_utf8.specs.Rfc3629.{encode}
+use lib.Seq.{sets-eq, lt-length-set, drop-at, length-take-le}
+use Rattle.p5_utf8.specs.Rfc3629.{isScalar, encode, charAt}
+use Rattle.p5_utf8.specs.declared.Char.the-variants.{Scalar}
 use Rattle.p5_utf8.proofs.Encode.{row-1, row-2, row-3, row-4, width-1, width-2, width-3, width-4, by-row}
+use Rattle.p5_utf8.proofs.Exact.{there-at}
 
 pub after : (j w n : ℕ) → w ≡ n → j + w ≡ j + n
 after j w n e = ap (λ (k : ℕ). j + k) e
@@ -56,6 +59,12 @@ module _ (o : List ℕ) (j x : ℕ) (r : j + length (encode x) ≤ length o) whe
       (sets-eq ((0xf0 + x / 262144) ∷ (0x80 + x / 4096 % 64) ∷ (0x80 + x / 64 % 64) ∷ (0x80 + x % 64) ∷ []) o j (omega (arith, width-4 x l))
       ∙ append-assoc (take j o) _ (drop (j + 4) o)))
 
+  pub put-read : (out : List ℕ) → isScalar x ≡ true → out ≡ take j o ++ (encode x ++ drop (j + length (encode x)) o)
+      → charAt out j ≡ Scalar x (length (encode x))
+  put-read out d e =
+      let k : length (take j o) ≡ j = length-take-le j o (omega arith) in
+      there-at out j x (drop (j + length (encode x)) o) d (rw e (drop-at (take j o) (encode x ++ drop (j + length (encode x)) o) j k))
+
 pub ruleset rooms = (room-1, room-2, room-3, room-4, lt-length-set)
 
-pub ruleset rows = (after, width-1, width-2, width-3, width-4, put-1, put-2, put-3, put-4)
+pub ruleset rows = (after, width-1, width-2, width-3, width-4, put-1, put-2, put-3, put-4, put-read)

@@ -20,6 +20,8 @@ isScalar x = pick (ltb x 0xd800) true (pick (ltb x 0xe000) false (ltb x 0x110000
 --    0000 0080-0000 07FF | 110xxxxx 10xxxxxx
 --    0000 0800-0000 FFFF | 1110xxxx 10xxxxxx 10xxxxxx
 --    0001 0000-0010 FFFF | 11110xxx 10xxxxxx 10xxxxxx 10xxxxxx
+-- It is of scalar values: of any other number the last row that its bits ask for is taken, and no character begins so
+-- (proofs/Exact: domain).
 unfoldable pub encode : ℕ → List ℕ
 encode x =
     pick (ltb x 0x80) (x ∷ [])

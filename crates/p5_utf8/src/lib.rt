@@ -1,10 +1,11 @@
 // UTF-8 by RFC 3629, for all of Unicode: the character at a place of bytes, and the bytes of a code point. The reader and
 // the writer over document 01's alphabet are p5_utf8_read and p5_utf8_write.
 ghost use mathlib.Core.Path.{_≡_};
+ghost use mathlib.Core.Bool.{true};
 ghost use mathlib.Core.List.{[], _∷_, _++_};
 ghost use Prim.Native.Nat.{_+_, _≤_, _<_};
 ghost use lib.ListN.{getD, length, take, drop};
-ghost use Rattle.p5_utf8.specs.Rfc3629.{encode, _to_, tail, utf8-3, utf8-4, begins, charOf, charAt};
+ghost use Rattle.p5_utf8.specs.Rfc3629.{isScalar, encode, _to_, tail, utf8-3, utf8-4, begins, charOf, charAt};
 
 // What stands at a place of bytes: a Unicode scalar value and the number of its bytes, or no character.
 pub enum Char {
@@ -156,11 +157,13 @@ pub fn width(x: u32) -> usize
     4
 }
 
-// Writes the bytes of a code point at a place, and gives the place after them.
+// Writes the bytes of a scalar value at a place, and gives the place after them. They are read back as that character: of a
+// surrogate they would not be.
 pub fn put(out: &mut [u8], j: usize, x: u32) -> usize
-    requires { ⌜ (x < 0x110000) × (j + length (encode x) ≤ length (now out)) ⌝ }
+    requires { ⌜ (isScalar x ≡ true) × (j + length (encode x) ≤ length (now out)) ⌝ }
     ensures { λ r. ⌜ r ≡ j + length (encode x) ⌝ }
     ensures { λ r. ⌜ now (out .exit) ≡ take j (now (out .entry)) ++ (encode x ++ drop (j + length (encode x)) (now (out .entry))) ⌝ }
+    ensures { λ r. ⌜ charAt (now (out .exit)) j ≡ Char.Scalar x (length (encode x)) ⌝ }
 {
     if x < 0x80 {
         out[j] = x as u8;

@@ -9,13 +9,14 @@ use lib.ListN.{length, drop, length-drop}
 use lib.Seq.{drop-append-seam}
 use Rattle.p0_choice.specs.Choice.{pick}
 use Rattle.p0_refusals.specs.declared.Refusal.{Refusal}
-use Rattle.p0_refusals.specs.declared.Refusal.the-variants.{Foreign, Malformed}
+use Rattle.p0_refusals.specs.declared.Refusal.the-variants.{Foreign, Short, Malformed}
 use Rattle.p1_letters.specs.Alphabet.{inAlphabet, allLetters}
 use Rattle.p5_utf8.specs.declared.Char.{Char}
 use Rattle.p5_utf8.specs.declared.Char.the-variants.{Malformed as NoChar, Scalar}
 use Rattle.p5_utf8.specs.Rfc3629.{isScalar, encode, encodeAll, charOf}
 use Rattle.p0_refusals.specs.Answers.{Outcome, writes, refuses}
-use Rattle.p5_utf8.proofs.Encode.{some-bytes}
+use Rattle.p0_refusals.proofs.Room.{Fits}
+use Rattle.p5_utf8.proofs.Encode.{some-bytes, many-bytes}
 use Rattle.p5_utf8.proofs.Exact.{found, there}
 use Rattle.p5_utf8_write.proofs.Alphabet.{letter-scalar, all-head}
 use Rattle.p5_utf8_read.specs.Read.{before, letters}
@@ -130,6 +131,15 @@ module _ (s : List ℕ) where
   -- the letters are exactly those whose encoding the bytes are
   pub letters-exactly : (xs : List ℕ) → letters s ≡ writes xs ↔ ((encodeAll xs ≡ s) × (allLetters xs ≡ true))
   letters-exactly xs = (λ e. rw e at what, λ h. rw (← h .0) (read-written xs (h .1)))
+
+  -- they are no more than the bytes
+  pub letters-fit : (m : ℕ) → length s ≤ m → Fits m (letters s)
+  letters-fit m l = go (letters s) what
+    where
+      go : (u : Outcome) → Is s u → Fits m u
+      go (writes xs) h = omega (arith, many-bytes xs, ap length (h .0))
+      go (refuses r) (inl h) = λ e. let q = h .0 in let z : _≡_ {A = ℕ} 0 1 = cc in omega arith
+      go (refuses r) (inr h) = λ e. let q = h .0 in let z : _≡_ {A = ℕ} 0 1 = cc in omega arith
 
 -- so no two strings of letters share their bytes
 pub one-form : (xs ys : List ℕ) → allLetters xs ≡ true → allLetters ys ≡ true → encodeAll xs ≡ encodeAll ys → xs ≡ ys

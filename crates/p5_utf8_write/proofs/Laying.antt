@@ -7,13 +7,13 @@ use native.Mathlib.Omega.{arith}
 use lib.ListN.{length, getD, take, drop, length-append, length-drop, drop-of-length-le, take-append-drop}
 use lib.Seq.{take-at, drop-at, length-take-le, drop-drop}
 use Rattle.p1_letters.specs.Alphabet.{allLetters}
-use Rattle.p5_utf8.specs.Rfc3629.{encode, encodeAll}
+use Rattle.p5_utf8.specs.Rfc3629.{isScalar, encode, encodeAll}
 use Rattle.p0_refusals.specs.Answers.{onto}
-use Rattle.p5_utf8_write.proofs.Alphabet.{letter-low, all-at}
+use Rattle.p5_utf8_write.proofs.Alphabet.{letter-scalar, all-at}
 use Rattle.p5_utf8_write.proofs.Measuring.{rest, bytes-on}
 
-pub letter-fits : (xs : List ℕ) (i x m : ℕ) → allLetters xs ≡ true → i < length xs → x ≡ getD xs i 0 → 0x110000 ≤ m → x < m
-letter-fits xs i x m a l p h = let k = letter-low (getD xs i 0) (all-at xs i a l) in omega arith
+pub next-scalar : (xs : List ℕ) (i x : ℕ) → allLetters xs ≡ true → i < length xs → x ≡ getD xs i 0 → isScalar x ≡ true
+next-scalar xs i x a l p = rw p (letter-scalar (getD xs i 0) (all-at xs i a l))
 
 pub lay-start : (xs o : List ℕ) → encodeAll xs ≡ take 0 o ++ encodeAll (drop 0 xs)
 lay-start xs o = refl

@@ -1,4 +1,6 @@
+use native.Mathlib.Omega.{arith}
 use borrow.Author.Needs.{needs}
+use Rattle.p5_utf8.proofs.Encode.{scalar-below}
 use Rattle.p5_utf8.proofs.Putting.{rooms, rows}
 use Rattle.p5_utf8.proofs.put.Statement.{statement}
 use Rattle.p5_utf8.proofs.put.Tie as tie
@@ -10,4 +12,4 @@ put-spec =
     (λ c. search needs) (λ c. search rooms) (λ c. search needs) (λ c. search needs) (λ c. search rows)
     (λ c. search needs) (λ c. search needs) (λ c. search rooms) (λ c. search needs) (λ c. search needs) (λ c. search needs) (λ c. search rooms) (λ c. search needs) (λ c. search needs) (λ c. search rows)
     (λ c. search needs) (λ c. search needs) (λ c. search rooms) (λ c. search needs) (λ c. search needs) (λ c. search needs) (λ c. search rooms) (λ c. search needs) (λ c. search needs) (λ c. search needs) (λ c. search rooms) (λ c. search needs) (λ c. search needs) (λ c. search rows)
-    (λ c. search needs) (λ c. search needs) (λ c. search rooms) (λ c. search needs) (λ c. search needs) (λ c. search needs) (λ c. search rooms) (λ c. search needs) (λ c. search needs) (λ c. search needs) (λ c. search rooms) (λ c. search needs) (λ c. search needs) (λ c. search needs) (λ c. search rooms) (λ c. search needs) (λ c. search needs) (λ c. search rows))
+    (λ c. search needs) (λ c. omega (arith, scalar-below)) (λ c. search rooms) (λ c. search needs) (λ c. search needs) (λ c. search needs) (λ c. search rooms) (λ c. search needs) (λ c. search needs) (λ c. search needs) (λ c. search rooms) (λ c. search needs) (λ c. search needs) (λ c. search needs) (λ c. search rooms) (λ c. search needs) (λ c. search needs) (λ c. search rows))

@@ -5,7 +5,7 @@ use lib.ListN.{length, take, drop}
 use Rattle.p5_utf8.specs.Rfc3629.{encodeAll}
 use borrow.Author.Needs.{needs}
 use Rattle.p5_utf8_write.proofs.Measuring.{bytes-start}
-use Rattle.p5_utf8_write.proofs.Laying.{letter-fits, put-fits, put-on, put-length, put-bytes, put-rest, lay-start, lay-done}
+use Rattle.p5_utf8_write.proofs.Laying.{next-scalar, put-fits, put-on, put-length, put-bytes, put-rest, lay-start, lay-done}
 use Rattle.p5_utf8_write.proofs.lay.Statement.{statement}
 use Rattle.p5_utf8_write.proofs.lay.Tie as tie
 
@@ -26,7 +26,7 @@ pub lay-spec : {M : Type 1} → statement M
 lay-spec =
     tie.close
     (tie.spec Inv-loop μ-loop
-    (λ c. search answers) (λ c. search answers) (λ c. search answers) (λ c κs. (search (letter-fits, refl, needs), search (put-fits, refl))) (λ c. search answers)
+    (λ c. search answers) (λ c. search answers) (λ c. search answers) (λ c κs. (search (next-scalar, refl), search (put-fits, refl))) (λ c. search answers)
     (λ c. search answers)
     (λ c. (search needs, search (put-on, refl), search (put-length, refl), search (put-bytes, refl), search (put-rest, refl)))
     (λ c. search answers) (λ c. search answers))

@@ -1,0 +1,52 @@
+-- With room for 32 letters the calls that write the text never refuse by 3.
+use Prim.Native.Nat.{ℕ, _-_, _≤_}
+use mathlib.Core.Path.{_≡_, refl}
+use mathlib.Core.Bool.{Bool, true, false}
+use mathlib.Core.List.{List}
+use native.Mathlib.Omega.{arith}
+use lib.Dec.{eqb}
+use lib.ListN.{length, take, length-map, length-take}
+use Rattle.p0_choice.specs.Choice.{pick}
+use Rattle.p0_refusals.specs.Answers.{writes, refuses, answer}
+use Rattle.p0_refusals.specs.declared.Answer.the-variants.{Refused}
+use Rattle.p0_refusals.specs.declared.Refusal.the-variants.{Short, Empty, Unsound}
+use Rattle.p0_refusals.proofs.Room.{Fits, enough}
+use Rattle.p3_cells.specs.Cells.{isSound, used}
+use Rattle.p3_cells.specs.Text.{shown, textOf}
+use Rattle.p3_cells.specs.declared.Cell.{Cell}
+use Rattle.p3_cells.specs.declared.Composition.{Composition}
+use Rattle.p3_cells.proofs.Holding.{count-fits}
+use Rattle.p3_calls.specs.Output.{textOutcome, left, popOutcome}
+
+text-short : (n k : ℕ) (xs : List Cell) → n ≤ k → length (textOf (take n xs)) ≤ k
+unfolding textOf
+text-short n k xs h = omega (arith, length-map (take n xs) shown, length-take n xs)
+
+module _ (c : Composition) where
+  used-short : isSound c ≡ true → length (used c) ≤ 32
+  unfolding used
+  used-short s = omega (arith, count-fits c s, length-take (c .count) (c .cells))
+
+  text-fits : Fits 32 (textOutcome c)
+  unfolding textOutcome used
+  text-fits = go (isSound c) refl
+    where
+      go : (s : Bool) → isSound c ≡ s → Fits 32 (pick s (writes (textOf (take (c .count) (c .cells)))) (refuses Unsound))
+      go true s = text-short (c .count) 32 (c .cells) (count-fits c s)
+      go false s = λ e. let z : _≡_ {A = ℕ} 0 1 = cc in omega arith
+
+  pop-fits : Fits 32 (popOutcome c)
+  unfolding popOutcome left
+  pop-fits = go (isSound c) refl (eqb (length (used c)) 0)
+    where
+      go : (s : Bool) → isSound c ≡ s → (b : Bool)
+          → Fits 32 (pick s (pick b (refuses Empty) (writes (textOf (take (length (used c) - 1) (used c))))) (refuses Unsound))
+      go true s true = λ e. let z : _≡_ {A = ℕ} 0 1 = cc in omega arith
+      go true s false = text-short (length (used c) - 1) 32 (used c) (omega (arith, used-short s))
+      go false s b = λ e. let z : _≡_ {A = ℕ} 0 1 = cc in omega arith
+
+  pub text-room : (n : ℕ) → 32 ≤ n → answer (textOutcome c) n ≡ Refused Short → ⊥
+  text-room n h = enough (textOutcome c) 32 n text-fits h
+
+  pub pop-room : (n : ℕ) → 32 ≤ n → answer (popOutcome c) n ≡ Refused Short → ⊥
+  pop-room n h = enough (popOutcome c) 32 n pop-fits h
