@@ -1,11 +1,13 @@
--- A matrix of row numbers as one of yes and no, which is what the code has.
-use Prim.Native.Nat.{ℕ, zero, suc, _+_, _<_}
-use mathlib.Core.Path.{_≡_, refl, ap}
+-- A matrix of row numbers as one of yes and no, which is what the code has. A row that it has not goes with none.
+use Prim.Native.Nat.{ℕ, zero, suc, _+_, _≤_, _<_}
+use mathlib.Core.Path.{_≡_, refl, sym, ap}
 use mathlib.Core.Bool.{Bool, false}
 use mathlib.Core.List.{List, [], _∷_, map}
 use native.Mathlib.Omega.{arith}
-use lib.ListN.{getD}
-use Rattle.p0_choice.specs.Choice.{among, count}
+use lib.Dec.{T, leb}
+use lib.ListN.{length, getD}
+use Rattle.p0_choice.specs.Choice.{among, count, each}
+use Rattle.p0_choice.proofs.Tables.{among-above, pick-first, pick-second}
 use Rattle.p4_rows.specs.Lookup.{allows}
 
 -- w columns wide
@@ -22,3 +24,16 @@ unfolding yesNo allows
 yes-no w [] i j h = refl
 yes-no w (row ∷ g) zero j h = column (λ (x : ℕ). among x row) w 0 j j (omega arith) h
 yes-no w (row ∷ g) (suc i) j h = yes-no w g i j h
+
+pub no-row : (g : List (List ℕ)) (i j : ℕ) → length g ≤ i → false ≡ allows g i j
+unfolding allows
+no-row [] i j h = refl
+no-row (row ∷ g) zero j h = absurd (omega arith)
+no-row (row ∷ g) (suc i) j h = no-row g i j (omega arith)
+
+-- the greatest number of a row is n
+pub no-column : (n : ℕ) (g : List (List ℕ)) → T (each (λ (row : List ℕ). each (λ (y : ℕ). leb y n) row) g) → (i j : ℕ) → n < j → false ≡ allows g i j
+unfolding allows
+no-column n [] t i j h = refl
+no-column n (row ∷ g) t zero j h = sym (among-above row n (rw (pick-first (each (λ (y : ℕ). leb y n) row) _ t) tt) j h)
+no-column n (row ∷ g) t (suc i) j h = no-column n g (pick-second (each (λ (y : ℕ). leb y n) row) _ t) i j h

@@ -1,9 +1,9 @@
 -- What the code stands on: a part's letters as one number, the rows as such numbers, and the rows of a part as the struct `Rows`.
-use Prim.Native.Nat.{ℕ, suc, _+_, _*_, _≤_}
+use Prim.Native.Nat.{ℕ, suc, _+_, _*_}
 use mathlib.Core.List.{List, [], _∷_, map}
-use lib.Dec.{T, eqb, ltb}
+use lib.Dec.{eqb, ltb}
 use lib.ListN.{length, getD, take}
-use Rattle.p0_choice.specs.Choice.{pick, among, each}
+use Rattle.p0_choice.specs.Choice.{pick, among}
 use Rattle.p4_rows.specs.declared.Rows.{Rows}
 use Rattle.p4_rows.specs.Rows.{Word, onsetRows, vowelRows, codaRows}
 
@@ -46,11 +46,6 @@ spread [] = record { count = 0; rows = 0 ∷ 0 ∷ [] }
 spread (i ∷ []) = record { count = 1; rows = i ∷ 0 ∷ [] }
 spread (i ∷ j ∷ is) = record { count = 2; rows = i ∷ j ∷ [] }
 
--- the row numbers of the struct
+-- the row numbers of the struct; a count over two says both
 unfoldable pub shown : Rows → List ℕ
 shown r = take (r .count) (r .rows)
-
--- they are at most two, each below n
-pub record Below (n : ℕ) (r : Rows) : Type 0 where
-  pub few : r .count ≤ 2
-  pub low : T (each (λ (i : ℕ). ltb i n) (shown r))

@@ -1,11 +1,11 @@
 // The rows of `spelling.rs` as letter tables, and its two matrices: in which rows a part of a word stands,
 // and whether a row of one part goes with a row of another.
 ghost use mathlib.Core.Path.{_≡_};
-ghost use Prim.Native.Nat.{_<_};
+ghost use Prim.Native.Nat.{min};
 ghost use Rattle.p4_rows.specs.Rows.{onsetRows, vowelRows, codaRows, onsetToVowels, vowelsToCoda};
 ghost use Rattle.p4_rows.specs.Lookup.{rowsOf, allows as allowed, goTogether};
-ghost use Rattle.p4_rows.specs.Matrices.{pairsOf, height, width};
-ghost use Rattle.p4_rows.specs.Keys.{keyOf, rowsOn, onsetKeys, vowelKeys, codaKeys, spread, shown, Below};
+ghost use Rattle.p4_rows.specs.Matrices.{pairsOf};
+ghost use Rattle.p4_rows.specs.Keys.{keyOf, rowsOn, onsetKeys, vowelKeys, codaKeys, spread, shown};
 
 // The numbers of the rows that a part stands in: the first `count` of `rows`. No part stands in more than two.
 pub struct Rows {
@@ -278,24 +278,48 @@ pub fn lookup_coda(part: &[u32]) -> Rows
     coda_rows(key(part))
 }
 
-// Whether a row goes with another.
+// Whether a row goes with another; none goes with a row that there is not.
 fn allows(matrix: Matrix, a: usize, b: usize) -> bool
-    requires { ⌜ (a < height matrix) × (b < width matrix) ⌝ }
     ensures { λ r. ⌜ r ≡ allowed (pairsOf matrix) a b ⌝ }
 {
     match matrix {
-        Matrix::OnsetToVowels => CV_MATRIX[a][b],
-        Matrix::VowelsToCoda => VC_MATRIX[a][b],
+        Matrix::OnsetToVowels => {
+            if 5 <= a {
+                return false;
+            }
+            if 8 <= b {
+                return false;
+            }
+            CV_MATRIX[a][b]
+        }
+        Matrix::VowelsToCoda => {
+            if 8 <= a {
+                return false;
+            }
+            if 5 <= b {
+                return false;
+            }
+            VC_MATRIX[a][b]
+        }
     }
+}
+
+// How many of the two places have a row: a count over two says both.
+fn held(count: usize) -> usize
+    ensures { λ r. ⌜ r ≡ min count 2 ⌝ }
+{
+    if 2 < count {
+        return 2;
+    }
+    count
 }
 
 // Some row of the first part goes with some row of the second: the search ends at the first pair allowed.
 fn pair_valid(matrix: Matrix, first: Rows, second: Rows) -> bool
-    requires { ⌜ Below (height matrix) first × Below (width matrix) second ⌝ }
     ensures { λ r. ⌜ r ≡ goTogether (pairsOf matrix) (shown first) (shown second) ⌝ }
 {
-    let m = first.count;
-    let n = second.count;
+    let m = held(first.count);
+    let n = held(second.count);
     let firsts = first.rows;
     let seconds = second.rows;
     let mut valid = false;
@@ -314,7 +338,6 @@ fn pair_valid(matrix: Matrix, first: Rows, second: Rows) -> bool
 
 // Some row of the onset goes with some row of the vowels.
 pub fn cv_valid(onset: Rows, vowels: Rows) -> bool
-    requires { ⌜ Below 5 onset × Below 8 vowels ⌝ }
     ensures { λ r. ⌜ r ≡ goTogether onsetToVowels (shown onset) (shown vowels) ⌝ }
 {
     pair_valid(Matrix::OnsetToVowels, onset, vowels)
@@ -322,7 +345,6 @@ pub fn cv_valid(onset: Rows, vowels: Rows) -> bool
 
 // Some row of the vowels goes with some row of the coda.
 pub fn vc_valid(vowels: Rows, coda: Rows) -> bool
-    requires { ⌜ Below 8 vowels × Below 5 coda ⌝ }
     ensures { λ r. ⌜ r ≡ goTogether vowelsToCoda (shown vowels) (shown coda) ⌝ }
 {
     pair_valid(Matrix::VowelsToCoda, vowels, coda)

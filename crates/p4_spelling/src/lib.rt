@@ -12,7 +12,7 @@ ghost use lib.Dec.{eqb};
 ghost use Rattle.p0_choice.specs.Choice.{pick};
 ghost use Rattle.p4_rows.specs.Rows.{onsetToVowels};
 ghost use Rattle.p4_rows.specs.Lookup.{goTogether};
-ghost use Rattle.p4_rows.specs.Keys.{shown, Below};
+ghost use Rattle.p4_rows.specs.Keys.{shown};
 ghost use Rattle.p4_spelling.specs.Cut.{beforeVowel, vowelRun, isGlue, onsetEnd};
 ghost use Rattle.p4_spelling.specs.Verdict.{codaFits, fits as fitting, verdict};
 ghost use Rattle.p4_spelling.specs.Answers.{placesOf, onsetPart, vowelsPart, codaPart, cutAnswer, verdictAnswer};
@@ -155,7 +155,6 @@ pub fn partition(word: &[u32]) -> Cut
 // One of the onset's rows goes with one of the vowels', or the onset has no letters. An onset without rows is not
 // listed, and goes with none.
 fn onset_fits(letters: usize, onset: Rows, vowels: Rows) -> bool
-    requires { ⌜ Below 5 onset × Below 8 vowels ⌝ }
     ensures { λ r. ⌜ r ≡ pick (eqb letters 0) true (goTogether onsetToVowels (shown onset) (shown vowels)) ⌝ }
 {
     if letters == 0 {
@@ -166,7 +165,6 @@ fn onset_fits(letters: usize, onset: Rows, vowels: Rows) -> bool
 
 // The same of the coda, whose search is its own: another row of the vowels may answer it.
 fn coda_fits(vowels: Rows, coda: &[u32]) -> bool
-    requires { ⌜ Below 8 vowels ⌝ }
     ensures { λ r. ⌜ r ≡ codaFits (shown vowels) (now (coda .entry)) ⌝ }
 {
     if coda.len() == 0 {

@@ -1,93 +1,80 @@
--- The answers of `word_number` and `next_word`, from what the calls in them answer.
-use Prim.Native.Nat.{ℕ, _+_, _≤_, _<_}
-use mathlib.Core.Path.{_≡_, sym, ap, _∙_}
+-- What `word_number` and `next_word` answer, and leave in the output, is what they have to write, from what the calls in
+-- them answer.
+use Prim.Native.Nat.{ℕ, _≤_, _<_}
+use mathlib.Core.Path.{_≡_, refl, sym, ap, _∙_, subst}
+use mathlib.Core.Logic.{⊎-elim}
 use mathlib.Core.Bool.{Bool, true, false}
 use mathlib.Core.List.{List, _++_}
 use native.Mathlib.Omega.{arith}
 use lib.ListN.{length, take, drop}
 use lib.Seq.{length-take-le}
-use borrow.Author.Tests.{lt-ltb, le-ltb}
 use Rattle.p0_refusals.specs.declared.Refusal.the-variants.{Foreign, Short, Long, NoWord}
 use Rattle.p0_refusals.specs.declared.Answer.{Answer}
 use Rattle.p0_refusals.specs.declared.Answer.the-variants.{Done, Refused}
-use Rattle.p0_refusals.specs.Answers.{writes, refuses, answer, output}
+use Rattle.p0_refusals.specs.Answers.{Outcome, writes, refuses, answer, output}
 use Rattle.p0_refusals.proofs.Answers.{refuses-answer, refuses-output, short-answer, short-output, writes-answer, writes-output}
 use Rattle.p1_letters.specs.Alphabet.{allLetters}
 use Rattle.p4_rows.specs.Rows.{Word}
-use Rattle.p4_spelling.specs.Answers.{permitted}
-use Rattle.p5_trie.specs.Trie.{size, nth, upTo}
+use Rattle.p5_trie.specs.Trie.{Trie, size, nth, upTo}
+use Rattle.p5_trie.specs.Numbering.{Many, Named, Unnamed}
+use Rattle.p5_trie.proofs.Unique.{one-total, one-numbering}
+use Rattle.p5_trie.proofs.Numbering as Tries
+use Rattle.p5_listing.specs.Listed.{Listed}
 use Rattle.p5_listing.specs.Cells.{listing}
-use Rattle.p5_listing.proofs.Computed.{size-listing}
-use Rattle.p5_lister.specs.Outcomes.{numbered, following}
+use Rattle.p5_listing.proofs.Numbering.{lists, numbering}
+use Rattle.p5_lister.specs.Meaning.{NumberMeans, word, none, Permitted, NextMeans, long, foreign, last, next}
 
-pub total-is : 5963 ≡ size listing
-total-is = sym size-listing
+-- answer and output are those of something that means what is asked
+abbrev pub Answers : (Outcome → Type 0) → List ℕ → Answer → List ℕ → Type 0
+Answers Means o r out = (u : Outcome) × Means u × (r ≡ answer u (length o)) × (out ≡ output u o)
+
+pub listed-many : Many Listed 5963
+listed-many = (nth listing, numbering)
 
 -- ---- word_number: the word is the first len letters of l
-module _ (n : ℕ) where
-  module _ (h : 5963 ≤ n) where
-    no-word : numbered n ≡ refuses NoWord
-    unfolding numbered
-    no-word = rw (le-ltb n 5963 h)
-
-    pub beyond : (m : ℕ) → Refused NoWord ≡ answer (numbered n) m
-    beyond m = refuses-answer _ _ no-word m
-
-    pub beyond-out : (out : List ℕ) → out ≡ output (numbered n) out
-    beyond-out out = refuses-output _ _ no-word out
+module _ (n : ℕ) (o : List ℕ) where
+  pub beyond : 5963 ≤ n → Answers (NumberMeans Listed n) o (Refused NoWord) o
+  beyond h = (
+    refuses NoWord,
+    none (record { total = 5963; many = (nth listing, numbering); past = h }) refl,
+    refuses-answer _ _ refl (length o),
+    refuses-output _ _ refl o,
+  )
 
   module _ (len : ℕ) (l : List ℕ) (h : n < 5963) (is : take len l ≡ nth listing n) (eight : length l ≡ 8) (small : len ≤ 8) where
-    named : numbered n ≡ writes (nth listing n)
-    unfolding numbered
-    named = rw (lt-ltb n 5963 h)
+    is-word : NumberMeans Listed n (writes (nth listing n))
+    is-word = word (nth listing n) (record { order = nth listing; total = 5963; numbers = numbering; small = h; is = refl }) refl
 
-    long : length (nth listing n) ≡ len
-    long = ap length (sym is) ∙ length-take-le len l (omega arith)
+    long-as : length (nth listing n) ≡ len
+    long-as = ap length (sym is) ∙ length-take-le len l (omega arith)
 
-    pub short : (m : ℕ) → m < len → Refused Short ≡ answer (numbered n) m
-    short m s = short-answer _ _ named m (rw long s)
+    pub short : length o < len → Answers (NumberMeans Listed n) o (Refused Short) o
+    short s = (writes (nth listing n), is-word, short-answer _ _ refl (length o) (rw long-as s), short-output _ _ refl o (rw long-as s))
 
-    pub short-out : (out : List ℕ) → length out < len → out ≡ output (numbered n) out
-    short-out out s = short-output _ _ named out (rw long s)
+    pub done : (out : List ℕ) → len ≤ length o → out ≡ take len l ++ drop len o → Answers (NumberMeans Listed n) o (Done len) out
+    done out s e = (
+      writes (nth listing n),
+      is-word,
+      writes-answer _ _ refl (length o) len (rw long-as s) (sym long-as),
+      writes-output _ _ refl o out (rw long-as s) (rw (long-as, ← is) e),
+    )
 
-    pub done : (m : ℕ) → len ≤ m → Done len ≡ answer (numbered n) m
-    done m s = writes-answer _ _ named m len (rw long s) (sym long)
+-- ---- next_word: the number of the word that follows is how many are at most w
+number-next : {P : Word → Type 0} {t : Trie} (l : Tries.Lists P t) (w : Word) (u : Outcome) → Permitted w → NumberMeans P (upTo t w) u → NextMeans P w u
+number-next {t = t} l w u p (word r q e) =
+    let h : upTo t w < size t = omega (arith, q .small, one-total (q .numbers) (Tries.numbering l)) in
+    let s : nth t (upTo t w) ≡ r = one-numbering (Tries.numbering l) (q .numbers) (upTo t w) h ∙ q .is in
+    next r p (rw s at (Tries.follows l w h)) e
+number-next {t = t} l w u p (none q e) =
+    last p (Tries.last l w (omega (arith, q .past, one-total (q .many .1) (Tries.numbering l)))) e
 
-    pub done-out : (out o : List ℕ) → len ≤ length out → o ≡ take len l ++ drop len out → o ≡ output (numbered n) out
-    done-out out o s e = writes-output _ _ named out o (rw long s) (rw (long, ← is) e)
-
--- ---- next_word: n words are at most w
-module _ (w : Word) where
-  module _ (h : 64 < length w) where
-    not-short : following w ≡ refuses Long
-    unfolding following permitted
-    not-short = rw (lt-ltb 64 (length w) h)
-
-    pub too-long : (m : ℕ) → Refused Long ≡ answer (following w) m
-    too-long m = refuses-answer _ _ not-short m
-
-    pub too-long-out : (out : List ℕ) → out ≡ output (following w) out
-    too-long-out out = refuses-output _ _ not-short out
+module _ (w : Word) (o : List ℕ) where
+  pub too-long : 64 < length w → Answers (NextMeans Listed w) o (Refused Long) o
+  too-long h = (refuses Long, long h refl, refuses-answer _ _ refl (length o), refuses-output _ _ refl o)
 
   module _ (b : Bool) (l : length w ≤ 64) (e : b ≡ allLetters w) where
-    module _ (f : b ≡ false) where
-      not-letters : following w ≡ refuses Foreign
-      unfolding following permitted
-      not-letters = rw (le-ltb 64 (length w) l, sym e ∙ f)
+    pub not-letters : b ≡ false → Answers (NextMeans Listed w) o (Refused Foreign) o
+    not-letters f = (refuses Foreign, foreign l (sym e ∙ f) refl, refuses-answer _ _ refl (length o), refuses-output _ _ refl o)
 
-      pub foreign : (m : ℕ) → Refused Foreign ≡ answer (following w) m
-      foreign m = refuses-answer _ _ not-letters m
-
-      pub foreign-out : (out : List ℕ) → out ≡ output (following w) out
-      foreign-out out = refuses-output _ _ not-letters out
-
-    module _ (f : b ≡ true) (n : ℕ) (u : n ≡ upTo listing w) where
-      same-outcome : following w ≡ numbered n
-      unfolding following permitted
-      same-outcome = rw (le-ltb 64 (length w) l, sym e ∙ f, sym u)
-
-      pub follows : (m : ℕ) (r : Answer) → r ≡ answer (numbered n) m → r ≡ answer (following w) m
-      follows m r q = rw same-outcome q
-
-      pub follows-out : (out o : List ℕ) → o ≡ output (numbered n) out → o ≡ output (following w) out
-      follows-out out o q = rw same-outcome q
+    pub follows : b ≡ true → (n : ℕ) (r : Answer) (out : List ℕ) → n ≡ upTo listing w → Answers (NumberMeans Listed n) o r out → Answers (NextMeans Listed w) o r out
+    follows f n r out u a = (a .0, number-next lists w (a .0) (l, sym e ∙ f) (rw u at (a .1)), a .2, a .3)

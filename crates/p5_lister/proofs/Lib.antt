@@ -1,5 +1,7 @@
 pub mod Walk
 pub mod Spell
 pub mod Copy
-pub mod Answers
 pub mod Meaning
+pub mod Answers
+pub mod Demand3
+pub mod Room

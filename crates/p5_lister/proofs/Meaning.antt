@@ -1,80 +1,42 @@
--- Every answer of the lister means what specs/Meaning says of it, and what is written is the word meant.
+-- What the lister has to write is one thing (`one-number-outcome`, `one-next-outcome`): no second answer fits its contracts,
+-- and no second output.
 use Prim.Native.Nat.{ℕ, _≤_, _<_}
-use mathlib.Core.Path.{_≡_, refl, sym, ap}
+use mathlib.Core.Path.{_≡_, refl, sym, ap, _∙_, subst}
 use mathlib.Core.Bool.{true, false}
 use native.Mathlib.Omega.{arith}
-use lib.Dec.{ltb}
 use lib.ListN.{length}
-use borrow.Author.Tests.{ltb-true, ltb-false, lt-ltb}
-use Rattle.p0_choice.specs.Choice.{pick}
-use Rattle.p0_choice.proofs.Choices.{pick-both}
-use Rattle.p0_refusals.specs.declared.Refusal.{Refusal}
-use Rattle.p0_refusals.specs.declared.Refusal.the-variants.{Foreign, Short, Long, NoWord}
+use Rattle.p0_refusals.specs.declared.Refusal.the-variants.{Foreign, Long, NoWord}
+use Rattle.p0_refusals.specs.Answers.{Outcome, writes, refuses}
 use Rattle.p1_letters.specs.Alphabet.{allLetters}
 use Rattle.p4_rows.specs.Rows.{Word}
-use Rattle.p4_spelling.specs.Answers.{permitted}
-use Rattle.p5_trie.specs.Trie.{nth, upTo}
-use Rattle.p5_listing.specs.Listed.{Numbering}
-use Rattle.p5_listing.specs.Cells.{listing}
-use Rattle.p5_listing.proofs.Numbering.{numbering, follows, last}
-use Rattle.p5_listing.proofs.Unique.{one-total, one-numbering}
-use Rattle.p0_refusals.specs.declared.Answer.{Answer}
-use Rattle.p0_refusals.specs.declared.Answer.the-variants.{Done, Refused}
-use Rattle.p0_refusals.specs.Answers.{Outcome, writes, refuses, answer}
-use Rattle.p5_lister.specs.Outcomes.{numbered, following}
-use Rattle.p5_lister.specs.Meaning.{NumberMeans, NextMeans}
+use Rattle.p5_trie.specs.Numbering.{Named, Unnamed, Follows, Last}
+use Rattle.p5_trie.proofs.Unique.{one-named, named-or-not, one-follows, follows-or-last}
+use Rattle.p5_lister.specs.Meaning.{NumberMeans, word, none, Permitted, NextMeans, long, foreign, last, next}
 
--- what holds of the answer to what is written, and of a refusal, holds of the answer
-room-means : (P : Answer → Type 0) (u : Word) (room : ℕ) → (room < length u → P (Refused Short)) → (length u ≤ room → P (Done (length u))) → P (answer (writes u) room)
-unfolding answer
-room-means P u room f g =
-    pick-both P (ltb room (length u)) (Refused Short) (Done (length u)) (λ s. f (ltb-true room (length u) s)) (λ s. g (ltb-false room (length u) s))
+pub never-both : (w : Word) → allLetters w ≡ true → allLetters w ≡ false → ⊥
+never-both w a b = let z : _≡_ {A = ℕ} 0 1 = cc in omega arith
 
-refused-means : (P : Answer → Type 0) (r : Refusal) (room : ℕ) → P (Refused r) → P (answer (refuses r) room)
-unfolding answer
-refused-means P r room p = p
+module _ {P : Word → Type 0} where
+  pub one-number-outcome : (n : ℕ) (u v : Outcome) → NumberMeans P n u → NumberMeans P n v → u ≡ v
+  one-number-outcome n u v (word r p e) (word s q f) = e ∙ ap writes (one-named n r s p q) ∙ sym f
+  one-number-outcome n u v (word r p e) (none q f) = absurd (named-or-not n r p q)
+  one-number-outcome n u v (none p e) (word s q f) = absurd (named-or-not n s q p)
+  one-number-outcome n u v (none p e) (none q f) = e ∙ sym f
 
-module _ (f : ℕ → Word) (total : ℕ) (p : Numbering f total) (n : ℕ) where
-  there : 5963 ≡ total
-  there = one-total (nth listing) f 5963 total numbering p
-
-  same-word : n < 5963 → nth listing n ≡ f n
-  same-word h = one-numbering (nth listing) f 5963 total numbering p n h
-
-  pub number-means : (room : ℕ) → NumberMeans f total n room (answer (numbered n) room)
-  unfolding numbered
-  number-means room =
-      pick-both (λ (u : Outcome). NumberMeans f total n room (answer u room)) (ltb n 5963) (writes (nth listing n)) (refuses NoWord)
-      (λ (t : ltb n 5963 ≡ true).
-      let h : n < 5963 = ltb-true n 5963 t in
-      let e : length (nth listing n) ≡ length (f n) = ap length (same-word h) in
-      room-means (NumberMeans f total n room) (nth listing n) room (λ s. (omega (arith, there), omega arith)) (λ s. (omega (arith, there), sym e, s)))
-      (λ (t : ltb n 5963 ≡ false). refused-means (NumberMeans f total n room) NoWord room (omega (arith, there, ltb-false n 5963 t)))
-
-  pub number-writes : n < total → numbered n ≡ writes (f n)
-  unfolding numbered
-  number-writes h =
-      let k : n < 5963 = omega (arith, there) in
-      rw (lt-ltb n 5963 k) (ap writes (same-word k))
-
-module _ (w : Word) (room : ℕ) where
-  after-means : NextMeans w room (answer (numbered (upTo listing w)) room)
-  unfolding numbered
-  after-means =
-      let n : ℕ = upTo listing w in
-      let u : Word = nth listing (upTo listing w) in
-      pick-both (λ (o : Outcome). NextMeans w room (answer o room)) (ltb n 5963) (writes u) (refuses NoWord)
-      (λ (t : ltb n 5963 ≡ true).
-      room-means (NextMeans w room) u room (λ s. (u, (follows w (ltb-true n 5963 t), s))) (λ s. (u, (follows w (ltb-true n 5963 t), refl, s))))
-      (λ (t : ltb n 5963 ≡ false). refused-means (NextMeans w room) NoWord room (last w (ltb-false n 5963 t)))
-
-  pub next-means : NextMeans w room (answer (following w) room)
-  unfolding following permitted
-  next-means =
-      pick-both (λ (o : Outcome). NextMeans w room (answer o room)) (ltb 64 (length w)) (refuses Long)
-      (pick (allLetters w) (numbered (upTo listing w)) (refuses Foreign))
-      (λ (t : ltb 64 (length w) ≡ true). refused-means (NextMeans w room) Long room (ltb-true 64 (length w) t))
-      (λ (t : ltb 64 (length w) ≡ false).
-      pick-both (λ (o : Outcome). NextMeans w room (answer o room)) (allLetters w) (numbered (upTo listing w)) (refuses Foreign)
-      (λ (s : allLetters w ≡ true). after-means)
-      (λ (s : allLetters w ≡ false). refused-means (NextMeans w room) Foreign room s))
+  pub one-next-outcome : (w : Word) (u v : Outcome) → NextMeans P w u → NextMeans P w v → u ≡ v
+  one-next-outcome w u v (long h e) (long k f) = e ∙ sym f
+  one-next-outcome w u v (long h e) (foreign k a f) = absurd (omega arith)
+  one-next-outcome w u v (long h e) (last p l f) = absurd (omega arith)
+  one-next-outcome w u v (long h e) (next r p q f) = absurd (omega arith)
+  one-next-outcome w u v (foreign h a e) (long k f) = absurd (omega arith)
+  one-next-outcome w u v (foreign h a e) (foreign k b f) = e ∙ sym f
+  one-next-outcome w u v (foreign h a e) (last p l f) = absurd (never-both w (p .1) a)
+  one-next-outcome w u v (foreign h a e) (next r p q f) = absurd (never-both w (p .1) a)
+  one-next-outcome w u v (last p l e) (long k f) = absurd (omega arith)
+  one-next-outcome w u v (last p l e) (foreign k a f) = absurd (never-both w (p .1) a)
+  one-next-outcome w u v (last p l e) (last q m f) = e ∙ sym f
+  one-next-outcome w u v (last p l e) (next r q m f) = absurd (follows-or-last w r m l)
+  one-next-outcome w u v (next r p q e) (long k f) = absurd (omega arith)
+  one-next-outcome w u v (next r p q e) (foreign k a f) = absurd (never-both w (p .1) a)
+  one-next-outcome w u v (next r p q e) (last s l f) = absurd (follows-or-last w r q l)
+  one-next-outcome w u v (next r p q e) (next s m n f) = e ∙ ap writes (one-follows w r s q n) ∙ sym f

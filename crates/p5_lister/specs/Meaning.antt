@@ -1,39 +1,27 @@
--- What the lister's answers say, with no table: of any numbering that demand 3 allows, and of the word that follows.
+-- What the lister's calls have to write, by demand 3 and with no table: P is what it is to be listed.
 use Prim.Native.Nat.{ℕ, _≤_, _<_}
 use mathlib.Core.Path.{_≡_}
-use mathlib.Core.Bool.{false}
+use mathlib.Core.Bool.{true, false}
 use lib.ListN.{length}
-use Rattle.p0_refusals.specs.declared.Refusal.the-variants.{Foreign, Full, Short, Empty, NoUndo, Long, NoWord, Malformed, NoMethod, Unsound}
+use Rattle.p0_refusals.specs.declared.Refusal.the-variants.{Foreign, Long, NoWord}
+use Rattle.p0_refusals.specs.Answers.{Outcome, writes, refuses}
 use Rattle.p1_letters.specs.Alphabet.{allLetters}
 use Rattle.p4_rows.specs.Rows.{Word}
-use Rattle.p5_listing.specs.Listed.{Follows, Last}
-use Rattle.p0_refusals.specs.declared.Answer.{Answer}
-use Rattle.p0_refusals.specs.declared.Answer.the-variants.{Done, Refused}
+use Rattle.p5_trie.specs.Numbering.{Named, Unnamed, Follows, Last}
 
--- word number n, where f numbers the listed words: it has room; 7, there is none; 3, it has no room
-abbrev pub NumberMeans : (ℕ → Word) → ℕ → ℕ → ℕ → Answer → Type 0
-NumberMeans f total n room (Done k) = (n < total) × (length (f n) ≡ k) × (k ≤ room)
-NumberMeans f total n room (Refused Foreign) = ⊥
-NumberMeans f total n room (Refused Full) = ⊥
-NumberMeans f total n room (Refused Short) = (n < total) × (room < length (f n))
-NumberMeans f total n room (Refused Empty) = ⊥
-NumberMeans f total n room (Refused NoUndo) = ⊥
-NumberMeans f total n room (Refused Long) = ⊥
-NumberMeans f total n room (Refused NoWord) = total ≤ n
-NumberMeans f total n room (Refused Malformed) = ⊥
-NumberMeans f total n room (Refused NoMethod) = ⊥
-NumberMeans f total n room (Refused Unsound) = ⊥
+-- "Numbers 0 to 5,962 name them; 5,963 and up give 7."
+pub data NumberMeans (P : Word → Type 0) (n : ℕ) (u : Outcome) : Type 0 where
+  word : (r : Word) → Named P n r → u ≡ writes r → NumberMeans P n u
+  none : Unnamed P n → u ≡ refuses NoWord → NumberMeans P n u
 
--- the word after w: it has room; 6, w is too long; 1, it has a foreign letter; 7, no listed word follows; 3, the one that does has no room
-abbrev pub NextMeans : Word → ℕ → Answer → Type 0
-NextMeans w room (Done k) = (r : Word) × (Follows w r × (length r ≡ k) × (k ≤ room))
-NextMeans w room (Refused Foreign) = allLetters w ≡ false
-NextMeans w room (Refused Full) = ⊥
-NextMeans w room (Refused Short) = (r : Word) × (Follows w r × (room < length r))
-NextMeans w room (Refused Empty) = ⊥
-NextMeans w room (Refused NoUndo) = ⊥
-NextMeans w room (Refused Long) = 64 < length w
-NextMeans w room (Refused NoWord) = Last w
-NextMeans w room (Refused Malformed) = ⊥
-NextMeans w room (Refused NoMethod) = ⊥
-NextMeans w room (Refused Unsound) = ⊥
+-- "any word of the alphabet up to 64 letters"
+abbrev pub Permitted : Word → Type 0
+Permitted w = (length w ≤ 64) × (allLetters w ≡ true)
+
+-- "Asked for the next listed word after any permitted word .. it refuses exactly if no listed word follows"; 6 and 1 for a
+-- word that is not permitted
+pub data NextMeans (P : Word → Type 0) (w : Word) (u : Outcome) : Type 0 where
+  long : 64 < length w → u ≡ refuses Long → NextMeans P w u
+  foreign : length w ≤ 64 → allLetters w ≡ false → u ≡ refuses Foreign → NextMeans P w u
+  last : Permitted w → Last P w → u ≡ refuses NoWord → NextMeans P w u
+  next : (r : Word) → Permitted w → Follows P w r → u ≡ writes r → NextMeans P w u

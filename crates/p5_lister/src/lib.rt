@@ -9,10 +9,12 @@ ghost use mathlib.Core.Path.{_≡_};
 ghost use mathlib.Core.List.{_++_};
 ghost use Prim.Native.Nat.{_≤_, _<_};
 ghost use lib.ListN.{length, take, drop};
-ghost use Rattle.p5_trie.specs.Trie.{size, nth, upTo};
+ghost use Rattle.p5_trie.specs.Trie.{nth, upTo};
+ghost use Rattle.p5_trie.specs.Numbering.{Many};
+ghost use Rattle.p5_listing.specs.Listed.{Listed};
 ghost use Rattle.p5_listing.specs.Cells.{listing};
-ghost use Rattle.p0_refusals.specs.Answers.{answer, output};
-ghost use Rattle.p5_lister.specs.Outcomes.{numbered, following};
+ghost use Rattle.p0_refusals.specs.Answers.{Outcome, answer, output};
+ghost use Rattle.p5_lister.specs.Meaning.{NumberMeans, NextMeans};
 
 // How many words are listed.
 const TOTAL: usize = 5963;
@@ -42,7 +44,7 @@ fn letter(x: u16) -> u32
 }
 
 // How many listed words are at most the word.
-pub fn up_to(word: &[u32]) -> usize
+fn up_to(word: &[u32]) -> usize
     ensures { λ r. ⌜ r ≡ upTo listing (now (word .entry)) ⌝ }
 {
     let letters = cells::LETTERS;
@@ -121,15 +123,15 @@ fn put(letters: [u32; 8], n: usize, out: &mut [u32])
 
 // How many words are listed: the numbers below this name them.
 pub fn total() -> usize
-    ensures { λ r. ⌜ r ≡ size listing ⌝ }
+    ensures { λ r. ⌜ (r ≡ 5963) × Many Listed r ⌝ }
 {
     TOTAL
 }
 
 // The listed word of number n, from 0.
 pub fn word_number(n: usize, out: &mut [u32]) -> Answer
-    ensures { λ r. ⌜ r ≡ answer (numbered n) (length (now (out .entry))) ⌝ }
-    ensures { λ r. ⌜ now (out .exit) ≡ output (numbered n) (now (out .entry)) ⌝ }
+    ensures { λ r. ⌜ ((u : Outcome) × NumberMeans Listed n u
+        × (r ≡ answer u (length (now (out .entry)))) × (now (out .exit) ≡ output u (now (out .entry)))) ⌝ }
 {
     if TOTAL <= n {
         return Answer::Refused(Refusal::NoWord);
@@ -146,8 +148,8 @@ pub fn word_number(n: usize, out: &mut [u32]) -> Answer
 
 // The first listed word after a permitted word, which need not be listed.
 pub fn next_word(word: &[u32], out: &mut [u32]) -> Answer
-    ensures { λ r. ⌜ r ≡ answer (following (now (word .entry))) (length (now (out .entry))) ⌝ }
-    ensures { λ r. ⌜ now (out .exit) ≡ output (following (now (word .entry))) (now (out .entry)) ⌝ }
+    ensures { λ r. ⌜ ((u : Outcome) × NextMeans Listed (now (word .entry)) u
+        × (r ≡ answer u (length (now (out .entry)))) × (now (out .exit) ≡ output u (now (out .entry)))) ⌝ }
 {
     if 64 < word.len() {
         return Answer::Refused(Refusal::Long);

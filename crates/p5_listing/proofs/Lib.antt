@@ -4,4 +4,5 @@ pub mod Computed
 pub mod Complete
 pub mod Cells
 pub mod Numbering
-pub mod Unique
+pub mod Counts
+pub mod Triples

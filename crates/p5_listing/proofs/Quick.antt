@@ -18,7 +18,7 @@ use Rattle.p4_spelling.proofs.Parts.{coda-after}
 use Rattle.p5_listing.proofs.Plain.{Toneless, core}
 
 -- the lazy choice is the choice
-lazily : {A : Type 0} (b c : Bool) (x y u v : A) → b ≡ c → x ≡ u → y ≡ v → _≡_ {A = A} (elim b [ true ↦ x | false ↦ y ]) (pick c u v)
+pub lazily : {A : Type 0} (b c : Bool) (x y u v : A) → b ≡ c → x ≡ u → y ≡ v → _≡_ {A = A} (elim b [ true ↦ x | false ↦ y ]) (pick c u v)
 lazily true c x y u v e f g = f ∙ rw (← e)
 lazily false c x y u v e f g = g ∙ rw (← e)
 
@@ -79,7 +79,7 @@ quickGlued vs gs (x ∷ []) = false
 quickGlued vs gs (x ∷ y ∷ []) = false
 quickGlued vs gs (x ∷ y ∷ z ∷ w) = elim (quickIn (x ∷ y ∷ []) gs) [ true ↦ quickAmong z vs | false ↦ false ]
 
-quick-vowel : (x : ℕ) → toneOff x ≡ x → quickAmong x vowels ≡ isSpellingVowel x
+pub quick-vowel : (x : ℕ) → toneOff x ≡ x → quickAmong x vowels ≡ isSpellingVowel x
 unfolding isSpellingVowel
 quick-vowel x e = quick-among x vowels ∙ ap (λ (y : ℕ). among y vowels) (sym e)
 

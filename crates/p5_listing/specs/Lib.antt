@@ -1,2 +1,4 @@
 pub mod Listed
 pub mod Cells
+pub mod Counts
+pub mod Triples

@@ -1,3 +1,6 @@
 pub mod Order
 pub mod Tests
 pub mod Words
+pub mod Unique
+pub mod Numbering
+pub mod Kept

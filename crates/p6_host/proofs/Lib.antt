@@ -1,4 +1,5 @@
 pub mod LetterCalls
+pub mod ListerCalls
 pub mod MethodCalls
 pub mod SpellerCalls
 pub mod Told

@@ -4,7 +4,7 @@ use mathlib.Core.Path.{_≡_}
 use mathlib.Core.Bool.{false}
 use borrow.Author.Needs.{needs}
 use Rattle.p4_rows.specs.Matrices.{pairsOf}
-use Rattle.p4_rows.proofs.Pairs.{RowRest, PairRest, row-below, row-on, pair-on, pair-found, pair-none}
+use Rattle.p4_rows.proofs.Pairs.{RowRest, PairRest, row-on, pair-on, pair-found, pair-none}
 use Rattle.p4_rows.proofs.pair_valid.Statement.{statement}
 use Rattle.p4_rows.proofs.pair_valid.Tie as tie
 
@@ -22,12 +22,12 @@ Inv-pairs matrix m n firsts seconds valid₀ i₀ valid i =
 abbrev μ-pairs : tie.MeasureT-pairs
 μ-pairs matrix m n firsts seconds valid₀ i₀ valid i = m - i
 
-ruleset answers = (needs, row-below, row-on, pair-on, pair-found, pair-none)
+ruleset answers = (needs, row-on, pair-on, pair-found, pair-none)
 
 pub pair-valid-spec : {M : Type 1} → statement M
 pair-valid-spec =
     tie.close
     (tie.spec Inv-loop μ-loop Inv-pairs μ-pairs
-    (λ c. search needs) (λ c. search needs) (λ c. search needs) (λ c. search needs) (λ c. search needs) (λ c. search needs)
-    (λ c κs. search answers) (λ c. search needs) (λ c. search needs) (λ c. search answers) (λ c. search needs)
-    (λ c. search needs) (λ c. search answers) (λ c. search answers) (λ c. search answers))
+    (λ c κs. search needs) (λ c κs. search needs) (λ c. search needs) (λ c. search needs) (λ c. search needs) (λ c. search needs)
+    (λ c. search needs) (λ c. search needs) (λ c κs. search needs) (λ c. search needs) (λ c. search needs) (λ c. search answers)
+    (λ c. search needs) (λ c. search needs) (λ c. search answers) (λ c. search answers) (λ c. search answers))

@@ -1,10 +1,9 @@
 use borrow.Author.Needs.{needs}
-use Rattle.p4_rows.proofs.Spread.{coda-below}
 use Rattle.p4_spelling.proofs.Judging.{no-coda-rows, some-coda}
 use Rattle.p4_spelling.proofs.coda_fits.Statement.{statement}
 use Rattle.p4_spelling.proofs.coda_fits.Tie as tie
 
-ruleset answers = (needs, coda-below, no-coda-rows, some-coda)
+ruleset answers = (needs, no-coda-rows, some-coda)
 
 pub coda-fits-spec : {M : Type 1} → statement M
 coda-fits-spec =

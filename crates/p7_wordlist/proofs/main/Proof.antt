@@ -2,8 +2,6 @@ use borrow.Author.Needs.{needs}
 use mathlib.Core.Path.{_≡_}
 use Prim.Native.Nat.{_-_}
 use lib.ListN.{length}
-use Rattle.p5_trie.specs.Trie.{size}
-use Rattle.p5_listing.specs.Cells.{listing}
 use Rattle.p7_wordlist.proofs.main.Statement.{statement}
 use Rattle.p7_wordlist.proofs.main.Tie as tie
 
@@ -11,7 +9,7 @@ abbrev Inv-loop : tie.InvT-loop
 Inv-loop letters₀ n₀ letters n = length letters ≡ 8
 
 abbrev μ-loop : tie.MeasureT-loop
-μ-loop letters₀ n₀ letters n = size listing - n
+μ-loop letters₀ n₀ letters n = 5963 - n
 
 ruleset answers = (needs)
 

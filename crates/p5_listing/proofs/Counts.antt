@@ -1,0 +1,178 @@
+-- Document 01's counts of the listed words and their longest: antt counts the words of the table of each kind.
+use Prim.Native.Nat.{ℕ, suc, _≤_}
+use mathlib.Core.Path.{_≡_, refl, sym, ap, _∙_, subst}
+use mathlib.Core.Logic.{⊎-elim}
+use mathlib.Core.Bool.{Bool, true, false}
+use mathlib.Core.List.{List, [], _∷_}
+use native.Mathlib.Omega.{arith}
+use lib.Dec.{T}
+use lib.ListN.{length, take, drop}
+use Rattle.p0_choice.specs.Choice.{pick, each}
+use Rattle.p0_choice.specs.Text.{word, words, wordsFrom}
+use Rattle.p0_choice.proofs.Numbers.{below-or-not}
+use Rattle.p1_letters.specs.Vowels.{isSpellingVowel, vowels}
+use Rattle.p4_rows.specs.Rows.{Word}
+use Rattle.p4_rows.specs.Lookup.{inList, isEmpty}
+use Rattle.p4_rows.proofs.Words.{both-of, each-in}
+use Rattle.p4_spelling.specs.Cut.{beforeVowel, vowelRun, isGlue, startsGlued, onsetEnd, onsetOf, vowelsOf}
+use Rattle.p4_spelling.specs.Verdict.{verdict}
+use Rattle.p4_spelling.proofs.Folding.{too-long}
+use Rattle.p5_trie.specs.Trie.{Trie, size, nth}
+use Rattle.p5_trie.specs.Numbering.{Many}
+use Rattle.p5_trie.proofs.Tests.{holds}
+use Rattle.p5_trie.proofs.Numbering as Tries
+use Rattle.p5_trie.proofs.Kept.{kept, kept-lists}
+use Rattle.p5_listing.specs.Listed.{plain, Listed}
+use Rattle.p5_listing.specs.Counts.{isBareOnset, isWithoutOnset, hasBoth, ManyListed, Counts}
+use Rattle.p5_listing.specs.Cells.{letters, stops, downs, nexts, grow, trieAt, listing}
+use Rattle.p5_listing.proofs.Plain.{Toneless, plain-toneless}
+use Rattle.p5_listing.proofs.Quick.{lazily, quickAmong, quick-vowel}
+use Rattle.p5_listing.proofs.Numbering.{lists, numbering}
+
+-- ---- the kinds in a form that antt computes fast: a bare onset has no vowel, and a word without onset starts with one
+unfoldable quickBare : List ℕ → Word → Bool
+quickBare vs [] = true
+quickBare vs (x ∷ u) = elim (quickAmong x vs) [ true ↦ false | false ↦ quickBare vs u ]
+
+unfoldable quickWithout : List ℕ → Word → Bool
+quickWithout vs [] = true
+quickWithout vs (x ∷ u) = quickAmong x vs
+
+unfoldable quickBoth : List ℕ → Word → Bool
+quickBoth vs u = elim (quickWithout vs u) [ true ↦ false | false ↦ elim (quickBare vs u) [ true ↦ false | false ↦ true ] ]
+
+how-many : (List ℕ → Word → Bool) → Trie → List ℕ → ℕ
+how-many f t vs = size (kept (λ u. f vs u) t)
+
+bare : how-many quickBare listing vowels ≡ 25
+unfolding how-many size kept quickBare listing trieAt grow letters stops downs nexts word vowels quickAmong
+bare = refl
+
+without : how-many quickWithout listing vowels ≡ 217
+unfolding how-many size kept quickWithout listing trieAt grow letters stops downs nexts word vowels quickAmong
+without = refl
+
+both : how-many quickBoth listing vowels ≡ 5721
+unfolding how-many size kept quickBoth quickBare quickWithout listing trieAt grow letters stops downs nexts word vowels quickAmong
+both = refl
+
+-- ---- they are the kinds
+before-bare : (u : Word) → Toneless u → quickBare vowels u ≡ isEmpty (take (vowelRun (drop (beforeVowel u) u)) (drop (beforeVowel u) u))
+unfolding quickBare beforeVowel vowelRun
+before-bare [] t = refl
+before-bare (x ∷ u) t = go (quickAmong x vowels) (isSpellingVowel x) (quick-vowel x (t .0)) refl (before-bare u (t .1))
+  where
+    go : (a b : Bool) → a ≡ b → isSpellingVowel x ≡ b → quickBare vowels u ≡ isEmpty (take (vowelRun (drop (beforeVowel u) u)) (drop (beforeVowel u) u))
+        → _≡_ {A = Bool} (elim a [ true ↦ false | false ↦ quickBare vowels u ])
+        (isEmpty (take (vowelRun (drop (pick b 0 (suc (beforeVowel u))) (x ∷ u))) (drop (pick b 0 (suc (beforeVowel u))) (x ∷ u))))
+    go true true e s h = rw (vowelRun, s)
+    go true false e s h = absurd (let z : _≡_ {A = ℕ} 0 1 = cc in omega arith)
+    go false true e s h = absurd (let z : _≡_ {A = ℕ} 0 1 = cc in omega arith)
+    go false false e s h = h
+
+-- the third letter of a glued start is a vowel, the first is none
+glued-bare : (x y z : ℕ) (u : Word) → quickAmong z vowels ≡ true → quickBare vowels (x ∷ y ∷ z ∷ u) ≡ false
+unfolding quickBare
+glued-bare x y z u e = go (quickAmong x vowels) (quickAmong y vowels)
+  where
+    go : (a b : Bool)
+        → _≡_ {A = Bool} (elim a [ true ↦ false | false ↦ elim b [ true ↦ false | false ↦ elim (quickAmong z vowels) [ true ↦ false | false ↦ quickBare vowels u ] ] ]) false
+    go true b = refl
+    go false true = refl
+    go false false = rw (quickBare, e)
+
+startsPlain : Word → Bool
+startsPlain [] = true
+startsPlain (x ∷ u) = pick (quickAmong x vowels) false true
+
+consonants : T (each startsPlain (words "qu gi"))
+unfolding startsPlain quickAmong vowels word words wordsFrom
+consonants = tt
+
+glue-first : (x y : ℕ) → T (isGlue x y) → quickAmong x vowels ≡ false
+unfolding isGlue startsPlain
+glue-first x y t = go (quickAmong x vowels) (each-in startsPlain (words "qu gi") consonants (x ∷ y ∷ []) t)
+  where
+    go : (b : Bool) → T (pick b false true) → b ≡ false
+    go true q = absurd q
+    go false q = refl
+
+before-without : (u : Word) → Toneless u → quickWithout vowels u ≡ isEmpty (take (beforeVowel u) u)
+unfolding quickWithout beforeVowel
+before-without [] t = refl
+before-without (x ∷ u) t = quick-vowel x (t .0) ∙ go (isSpellingVowel x)
+  where
+    go : (b : Bool) → b ≡ isEmpty (take (pick b 0 (suc (beforeVowel u))) (x ∷ u))
+    go true = refl
+    go false = refl
+
+record Kinds (u : Word) : Type 0 where
+  bare-is : quickBare vowels u ≡ isBareOnset u
+  without-is : quickWithout vowels u ≡ isWithoutOnset u
+
+kinds-before : (u : Word) → Toneless u → onsetEnd u ≡ beforeVowel u → Kinds u
+unfolding isBareOnset isWithoutOnset vowelsOf onsetOf
+kinds-before u t e = record { bare-is = before-bare u t ∙ rw e; without-is = before-without u t ∙ rw e }
+
+kinds-glued : (x y z : ℕ) (u : Word) → Toneless (x ∷ y ∷ z ∷ u) → T (isGlue x y) → isSpellingVowel z ≡ true → onsetEnd (x ∷ y ∷ z ∷ u) ≡ 2 → Kinds (x ∷ y ∷ z ∷ u)
+unfolding isBareOnset isWithoutOnset vowelsOf onsetOf vowelRun quickWithout
+kinds-glued x y z u t g v e = record {
+  bare-is = glued-bare x y z u (quick-vowel z (t .1 .1 .0) ∙ v) ∙ rw (e, v);
+  without-is = glue-first x y g ∙ rw e;
+}
+
+kinds : (u : Word) → Toneless u → Kinds u
+unfolding onsetEnd startsGlued
+kinds [] t = kinds-before [] t refl
+kinds (x ∷ []) t = kinds-before (x ∷ []) t refl
+kinds (x ∷ y ∷ []) t = kinds-before (x ∷ y ∷ []) t refl
+kinds (x ∷ y ∷ z ∷ u) t = go (isGlue x y) (isSpellingVowel z) refl refl
+  where
+    go : (a b : Bool) → isGlue x y ≡ a → isSpellingVowel z ≡ b → Kinds (x ∷ y ∷ z ∷ u)
+    go true true p q = kinds-glued x y z u t (rw p tt) q (rw (p, q))
+    go true false p q = kinds-before (x ∷ y ∷ z ∷ u) t (rw (p, q))
+    go false b p q = kinds-before (x ∷ y ∷ z ∷ u) t (rw p)
+
+both-is : (u : Word) → Toneless u → quickBoth vowels u ≡ hasBoth u
+unfolding quickBoth hasBoth
+both-is u t = go (quickBare vowels u) (quickWithout vowels u) (kinds u t .bare-is) (kinds u t .without-is)
+  where
+    go : (a b : Bool) → a ≡ isBareOnset u → b ≡ isWithoutOnset u
+        → _≡_ {A = Bool} (elim b [ true ↦ false | false ↦ elim a [ true ↦ false | false ↦ true ] ]) (pick (isBareOnset u) false (pick (isWithoutOnset u) false true))
+    go true true e f = rw (← e)
+    go true false e f = rw (← e)
+    go false true e f = rw (← e, ← f)
+    go false false e f = rw (← e, ← f)
+
+-- ---- so many have each
+toneless : (u : Word) → Listed u → Toneless u
+toneless u l = subst Toneless (l .isPlain) (plain-toneless u)
+
+many : (quick f : Word → Bool) (n : ℕ) → ((u : Word) → Toneless u → quick u ≡ f u) → size (kept quick listing) ≡ n → ManyListed f n
+many quick f n same count =
+    let l : Tries.Lists (λ (u : Word). Listed u × T (f u)) (kept quick listing) =
+    kept-lists quick lists (λ u p t. (p, rw (same u (toneless u p)) at t)) (λ u q. (q .0, rw (same u (toneless u (q .0))) (q .1))) in
+    (nth (kept quick listing), rw count at (Tries.numbering l))
+
+-- ---- the longest
+longest : Word
+longest = word "nghuyêng"
+
+longest-held : T (holds listing longest)
+unfolding longest holds listing trieAt grow letters stops downs nexts word
+longest-held = tt
+
+none-longer : (u : Word) → Listed u → length u ≤ 8
+none-longer u l =
+    ⊎-elim (λ h. absurd (let t : T (verdict u) = l .accepted in rw (← too-long u h) at t)) (λ h. h) (below-or-not 8 (length u))
+
+-- "5,963 toneless words pass: 25 bare onsets, 217 without onset, 5,721 with onset and vowels"; "The longest has 8 letters."
+pub counts : Counts
+unfolding how-many longest word
+counts = record {
+  all = (nth listing, numbering);
+  bare = many (λ u. quickBare vowels u) isBareOnset 25 (λ u t. kinds u t .bare-is) bare;
+  without = many (λ u. quickWithout vowels u) isWithoutOnset 217 (λ u t. kinds u t .without-is) without;
+  both = many (λ u. quickBoth vowels u) hasBoth 5721 both-is both;
+  longest = record { within = none-longer; word = longest; has = lists .only longest longest-held; reaches = refl };
+}
