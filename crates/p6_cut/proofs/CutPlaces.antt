@@ -1,19 +1,19 @@
 -- The places of a cut word: those of the cut; and after a refusal all three parts are empty.
-use Prim.Native.Nat.{ℕ, _+_, _-_, _<_}
-use mathlib.Core.Path.{_≡_, refl, sym, _∙_}
+use Prim.Native.Nat.{_+_, _<_}
+use mathlib.Core.Path.{_≡_, refl, sym}
 use mathlib.Core.List.{[]}
 use native.Mathlib.Omega.{arith}
-use lib.ListN.{length, drop}
-use borrow.Author.Tests.{lt-ltb, le-ltb}
+use lib.ListN.{length}
+use borrow.Author.Tests.{lt-ltb}
 use Rattle.p0_refusals.specs.declared.Refusal.{Refusal}
 use Rattle.p4_rows.specs.Rows.{Word}
 use Rattle.p4_spelling.specs.Answers.{placesOf, cutAnswer, onsetPart, vowelsPart, codaPart}
-use Rattle.p4_spelling.specs.Cut.{vowelRun, onsetEnd, vowelsEnd, onsetOf, vowelsOf, codaOf}
-use Rattle.p4_spelling.proofs.Scans.{onset-le, vowels-le, onset-first}
+use Rattle.p4_spelling.specs.Cut.{onsetOf, vowelsOf, codaOf}
+use Rattle.p4_spelling.proofs.Answers.{onset-at, vowels-at, coda-at}
 use Rattle.p4_spelling.specs.declared.Cut.{Cut}
 use Rattle.p4_spelling.specs.declared.Cut.the-variants as Cuts
 use Rattle.p4_spelling.specs.declared.Places.{Places}
-use Rattle.p6_cut.specs.Cut.{placesAt, placesIn, placesAfter}
+use Rattle.p6_cut.specs.Cut.{placesAt, placesAfter}
 
 module _ (w : Word) (g : Cut) (e : g ≡ cutAnswer w) where
   pub cut-places : (p : Places) → g ≡ Cuts.At p → p ≡ placesAfter w
@@ -50,15 +50,10 @@ module _ (w : Word) (e : cutAnswer w ≡ Cuts.At (placesOf w)) where
   whole = sym (cut-places w (Cuts.At (placesOf w)) (sym e) (placesOf w) refl)
 
   pub onset-is : onsetPart w (placesAfter w) ≡ onsetOf w
-  unfolding onsetPart onsetOf placesOf
-  onset-is = rw (whole, le-ltb (length w) (onsetEnd w) (onset-le w)) refl
+  onset-is = rw whole (onset-at w)
 
   pub vowels-is : vowelsPart w (placesAfter w) ≡ vowelsOf w
-  unfolding vowelsPart vowelsOf placesOf vowelsEnd
-  vowels-is =
-      let d : onsetEnd w + vowelRun (drop (onsetEnd w) w) - onsetEnd w ≡ vowelRun (drop (onsetEnd w) w) = omega arith in
-      rw (whole, le-ltb (length w) (vowelsEnd w) (vowels-le w), le-ltb (vowelsEnd w) (onsetEnd w) (onset-first w), d) refl
+  vowels-is = rw whole (vowels-at w)
 
   pub coda-is : codaPart w (placesAfter w) ≡ codaOf w
-  unfolding codaPart codaOf placesOf
-  coda-is = rw (whole, le-ltb (length w) (vowelsEnd w) (vowels-le w)) refl
+  coda-is = rw whole (coda-at w)
