@@ -32,9 +32,6 @@ among-no x [] h = refl
 among-no x (k ∷ []) h = pick-ne x k false true false h refl
 among-no x (k ∷ (j ∷ ks)) h = pick-ne x k _ _ _ (λ e. h (inl e)) (among-no x (j ∷ ks) (λ t. h (inr t)))
 
-pub pick-some : {A : Type 0} (x : ℕ) (ks : List ℕ) (r a b : A) → OneOf ks x → r ≡ a → r ≡ pick (among x ks) a b
-pick-some x ks r a b h q = pick-true (among x ks) r a b (sym (among-yes x ks h)) q
-
 pub pick-none : {A : Type 0} (x : ℕ) (ks : List ℕ) (r a b : A) → (OneOf ks x → ⊥) → r ≡ b → r ≡ pick (among x ks) a b
 pick-none x ks r a b h q = pick-false (among x ks) r a b (sym (among-no x ks h)) q
 

@@ -38,8 +38,6 @@ module _ (w : Outcome) (xs : List ℕ) (q : w ≡ writes xs) where
   unfolding output content
   writes-output o out h f = rw (← writes-answer (length o) (length xs) h refl, q) f
 
-pub ruleset outcome = (refuses-answer, refuses-output, short-answer, short-output, writes-answer, writes-output)
-
 -- the count is there exactly if there is something to write
 pub counts : (u : Outcome) (n : ℕ) → counted u ≡ Done n → (u ≡ writes (content u)) × (n ≡ length (content u))
 unfolding counted content

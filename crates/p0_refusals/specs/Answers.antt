@@ -16,11 +16,6 @@ abbrev pub refusalOf : Answer → ℕ
 refusalOf (Done n) = 0
 refusalOf (Refused r) = numberOf r
 
--- how many letters or bytes were written
-abbrev pub countOf : Answer → ℕ
-countOf (Done n) = n
-countOf (Refused r) = 0
-
 -- What a call has to write, if nothing but the output's length is against it.
 pub data Outcome : Type 0 where
   writes : List ℕ → Outcome

@@ -1,6 +1,6 @@
 // What a call answers: how much it wrote, or why it refuses.
 ghost use mathlib.Core.Path.{_≡_};
-ghost use Rattle.p0_refusals.specs.Answers.{refusalOf, countOf};
+ghost use Rattle.p0_refusals.specs.Answers.{refusalOf};
 ghost use Rattle.p0_refusals.specs.Refusals.{numberOf};
 
 // Why a call refuses: a row of document 01's table each, in its order.
@@ -58,15 +58,5 @@ pub fn refusal_of(answer: Answer) -> u32
     match answer {
         Answer::Done(_) => 0,
         Answer::Refused(why) => number(why),
-    }
-}
-
-// How much the answer says was written.
-pub fn count_of(answer: Answer) -> usize
-    ensures { λ r. ⌜ r ≡ countOf answer ⌝ }
-{
-    match answer {
-        Answer::Done(n) => n,
-        Answer::Refused(_) => 0,
     }
 }
