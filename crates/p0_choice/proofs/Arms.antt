@@ -2,14 +2,14 @@
 -- arm knows of each earlier one that x is none of its keys (`c .match .rest`, the pairs `Missed`).
 use mathlib.Core.Path.{_≡_, refl, sym, ap, _∙_}
 use mathlib.Core.Bool.{Bool, true, false}
-use mathlib.Core.List.{List, [], _∷_, _++_}
-use mathlib.Core.Logic.{_⊎_, inl, inr, ⊎-elim}
+use mathlib.Core.List.{List, [], _∷_}
+use mathlib.Core.Logic.{inl, inr, ⊎-elim}
 use Prim.Native.Nat.{ℕ}
 use lib.Dec.{T, eqb}
 use types.Run.{OneOf}
 use borrow.Author.Tests.{eqb-true}
 use Rattle.p0_choice.specs.Choice.{pick, among, each}
-use Rattle.p0_choice.proofs.Choices.{pick-true, pick-false, pick-eq, pick-ne}
+use Rattle.p0_choice.proofs.Choices.{pick-false, pick-eq, pick-ne}
 use Rattle.p0_choice.proofs.Tables.{pick-first, pick-second, each-among}
 
 -- an arm of one key: what is right at the key, by computation, is right

@@ -2,8 +2,7 @@
 use Prim.Native.Nat.{ℕ}
 use Prim.Native.String.{String}
 use Prim.Native.String.{[] as end, _∷_ as _then_}
-use Prim.Native.Char.{Char, code}
-use mathlib.Core.Bool.{Bool, true, false}
+use Prim.Native.Char.{code}
 use mathlib.Core.List.{List, [], _∷_, _++_}
 use lib.Dec.{eqb}
 use Rattle.p0_choice.specs.Choice.{pick}

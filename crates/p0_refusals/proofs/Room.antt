@@ -1,10 +1,9 @@
 -- With room for all that a call can have to write, it never refuses by 3.
 use Prim.Native.Nat.{ℕ, _≤_}
-use mathlib.Core.Path.{_≡_, ap}
+use mathlib.Core.Path.{_≡_}
 use native.Mathlib.Omega.{arith}
 use lib.ListN.{length}
 use borrow.Author.Tests.{le-ltb}
-use Rattle.p0_refusals.specs.declared.Refusal.{Refusal}
 use Rattle.p0_refusals.specs.declared.Refusal.the-variants.{Short}
 use Rattle.p0_refusals.specs.Answers.{Outcome, writes, refuses, answer}
 use Rattle.p0_refusals.specs.declared.Answer.the-variants.{Refused}

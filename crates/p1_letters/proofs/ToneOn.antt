@@ -6,7 +6,7 @@ use mathlib.Core.List.{List, [], _∷_}
 use lib.Dec.{T, eqb}
 use lib.ListN.{getD}
 use borrow.Author.Tests.{eqb-true}
-use Rattle.p0_choice.specs.Choice.{pick, among, each}
+use Rattle.p0_choice.specs.Choice.{among, each}
 use Rattle.p0_choice.specs.Text.{word}
 use Rattle.p0_choice.proofs.Tables.{pick-first, pick-second, each-among}
 use Rattle.p0_choice.proofs.Arms.{not-yes}

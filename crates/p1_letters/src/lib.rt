@@ -6,7 +6,7 @@ ghost use mathlib.Core.List.{[], _∷_};
 ghost use lib.Dec.{eqb};
 ghost use Rattle.p0_choice.specs.Choice.{among};
 ghost use Rattle.p1_letters.specs.Alphabet.{smallBy32, smallBy1, smallNext, isCapital, inAlphabet, allLetters, isWhiteSpace, isSeparator, asciiLower, asciiUpper, lower as lowerOf, upper as upperOf};
-ghost use Rattle.p1_letters.specs.Tones.{toneColumn, toneFrom, toneOn, toneOff};
+ghost use Rattle.p1_letters.specs.Tones.{toneFrom, toneOn, toneOff};
 ghost use Rattle.p1_letters.specs.Vowels.{vowels, isVowel, isSpellingVowel};
 
 // Code points in blocks of 32, each block a number whose lowest bit stands for the block's first code point.

@@ -6,9 +6,8 @@ use mathlib.Core.List.{List, [], _∷_}
 use native.Mathlib.Omega.{arith}
 use lib.Dec.{ltb, eqb}
 use lib.ListN.{length}
-use borrow.Author.Tests.{lt-ltb, le-ltb, ltb-true, ltb-false, eqb-true, eqb-false, ne-eqb}
+use borrow.Author.Tests.{lt-ltb, le-ltb, ltb-true, ltb-false, eqb-false, ne-eqb}
 use Rattle.p0_choice.specs.Choice.{pick}
-use Rattle.p0_choice.proofs.Choices.{pick-both}
 use Rattle.p0_choice.proofs.Tests.{both-are}
 use Rattle.p1_unicode.specs.Canonical.{decomposed, classOf, reorderable, exchanged, run, ordered, canonical}
 

@@ -1,13 +1,12 @@
 -- A toned letter is canonically equal to its vowel with the tone's mark, it is the only letter of the alphabet that is,
 -- and tone off undoes tone on.
 use Prim.Native.Nat.{ℕ}
-use mathlib.Core.Path.{_≡_, refl, sym, ap, _∙_}
-use mathlib.Core.Bool.{Bool, true, false}
-use mathlib.Core.List.{List, [], _∷_}
-use native.Mathlib.Omega.{arith}
-use lib.Dec.{T, eqb}
+use mathlib.Core.Path.{_≡_, sym, _∙_}
+use mathlib.Core.Bool.{Bool, true}
+use mathlib.Core.List.{[], _∷_}
+use lib.Dec.{eqb}
 use borrow.Author.Tests.{eqb-true}
-use Rattle.p0_choice.specs.Choice.{pick, among, each}
+use Rattle.p0_choice.specs.Choice.{among, each}
 use Rattle.p0_choice.specs.Text.{word}
 use Rattle.p0_choice.proofs.Tables.{each-among}
 use Rattle.p1_letters.specs.Alphabet.{smallBy32, smallBy1, smallHigh, smallNext, isSmall, isAsciiCapital, isCapital, inAlphabet, asciiLower}

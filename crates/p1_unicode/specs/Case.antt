@@ -1,6 +1,6 @@
 -- The simple case mappings of the Unicode Standard, by the pairs of Ucd: a code point of no pair maps to itself.
 use Prim.Native.Nat.{ℕ}
-use mathlib.Core.Bool.{Bool, true, false}
+use mathlib.Core.Bool.{true, false}
 use mathlib.Core.List.{List, [], _∷_}
 use lib.Dec.{eqb}
 use Rattle.p1_unicode.specs.Ucd.{Pair, casePairs}

@@ -14,7 +14,7 @@ use Rattle.p0_refusals.specs.declared.Answer.the-variants.{Done}
 use Rattle.p0_refusals.specs.declared.Refusal.the-variants.{Foreign, Full, Unsound}
 use Rattle.p1_letters.specs.Alphabet.{inAlphabet}
 use Rattle.p2_input_method.specs.declared.InputMethod.{InputMethod}
-use Rattle.p3_cells.specs.Cells.{limit, isBlank, typed, isCell, fitsAt, isSound, used, holding}
+use Rattle.p3_cells.specs.Cells.{limit, isBlank, typed, isCell, fitsAt, isSound, used}
 use Rattle.p3_cells.specs.declared.Composition.{Composition}
 use Rattle.p3_cells.specs.declared.Mode.{Mode}
 use Rattle.p0_choice.proofs.Tests.{each-append, each-take}

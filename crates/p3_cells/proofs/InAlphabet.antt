@@ -1,12 +1,12 @@
 -- The text of sound cells is a word of the alphabet.
-use Prim.Native.Nat.{ℕ, _-_, _<_, _≤_}
+use Prim.Native.Nat.{ℕ, _-_}
 use mathlib.Core.Path.{_≡_, refl, sym, ap, _∙_}
-use mathlib.Core.Bool.{Bool, true, false}
+use mathlib.Core.Bool.{true}
 use mathlib.Core.List.{List, [], _∷_, map}
-use mathlib.Core.Logic.{_⊎_, inl, inr, ⊎-elim}
+use mathlib.Core.Logic.{⊎-elim}
 use native.Mathlib.Omega.{arith}
-use lib.Dec.{T, ltb, leb}
-use borrow.Author.Tests.{lt-ltb, le-ltb, ltb-true, ltb-false, leb-true}
+use lib.Dec.{ltb, leb}
+use borrow.Author.Tests.{leb-true}
 use Rattle.p0_choice.specs.Choice.{pick, among, each}
 use Rattle.p0_choice.specs.Text.{word}
 use Rattle.p0_choice.proofs.Choices.{pick-both}

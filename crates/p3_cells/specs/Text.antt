@@ -1,8 +1,7 @@
 -- Document 01, "A key, step by step": "Text: each cell's letter with its tone. If the flag is on and the result is not a
 -- capital, ASCII upper case is tried, which leaves every accented letter small."
 use Prim.Native.Nat.{ℕ}
-use mathlib.Core.Bool.{Bool, true, false}
-use mathlib.Core.List.{List, [], _∷_, map}
+use mathlib.Core.List.{List, map}
 use lib.Dec.{eqb}
 use Rattle.p0_choice.specs.Choice.{pick}
 use Rattle.p1_letters.specs.Alphabet.{isCapital, asciiUpper}

@@ -1,6 +1,6 @@
 -- An edit as the code comes to it; and that its places lie in the array, and its letters in it and in the output.
 use Prim.Native.Nat.{ℕ, _<_, _≤_}
-use mathlib.Core.Path.{_≡_, refl, sym, ap, _∙_}
+use mathlib.Core.Path.{_≡_, refl}
 use mathlib.Core.Bool.{Bool, true, false, not}
 use mathlib.Core.List.{List}
 use native.Mathlib.Omega.{arith}
@@ -15,7 +15,7 @@ use Rattle.p3_cells.specs.Cells.{limit}
 use Rattle.p3_cells.specs.declared.Cell.{Cell}
 use Rattle.p3_cells.specs.declared.Mode.{Mode}
 use Rattle.p3_cells.specs.declared.Mode.the-variants.{Vietnamese, English}
-use Rattle.p0_refusals.specs.declared.Answer.the-variants.{Done, Refused}
+use Rattle.p0_refusals.specs.declared.Answer.the-variants.{Done}
 use Rattle.p3_step.specs.Key.{keyCells}
 use Rattle.p3_step.specs.Step.{stepOf}
 use Rattle.p3_step.specs.declared.Change.the-variants.{Nothing}

@@ -1,15 +1,14 @@
 -- The soundness test as the owner makes it: the faults of the cells in use and the weights of the others have the sum 0.
-use Prim.Native.Nat.{ℕ, zero, suc, _+_, _-_, _*_, _^_, _<_, _≤_, min}
+use Prim.Native.Nat.{ℕ, zero, suc, _+_, _-_, _<_, _≤_, min}
 use mathlib.Core.Path.{_≡_, refl, sym, ap, _∙_}
 use mathlib.Core.Bool.{Bool, true, false}
-use mathlib.Core.List.{List}
-use mathlib.Core.Logic.{inl, inr}
+use mathlib.Core.Logic.{inl}
 use native.Mathlib.Omega.{arith}
 use native.Mathlib.Numerals.{add-one}
-use lib.Dec.{eqb, ltb, leb}
+use lib.Dec.{eqb, ltb}
 use lib.ListN.{getD}
 use borrow.Author.Tests.{ne-eqb, lt-ltb, ltb-true, ltb-false}
-use Rattle.p0_choice.specs.Choice.{pick, each, count as from}
+use Rattle.p0_choice.specs.Choice.{pick}
 use Rattle.p1_letters.specs.Alphabet.{inAlphabet}
 use Rattle.p3_cells.specs.Cells.{limit, blank, isBlank, isCell, fitsAt, isSound}
 use Rattle.p3_cells.specs.declared.Cell.{Cell}

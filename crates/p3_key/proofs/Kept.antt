@@ -1,8 +1,7 @@
 -- A key keeps a composition sound, and its array full of places: after any keys it can be handed in again.
-use Prim.Native.Nat.{ℕ, _<_, _≤_}
+use Prim.Native.Nat.{ℕ, _≤_}
 use mathlib.Core.Path.{_≡_, refl, sym, _∙_}
 use mathlib.Core.Bool.{Bool, true, false}
-use mathlib.Core.List.{List}
 use native.Mathlib.Omega.{arith}
 use lib.Dec.{ltb}
 use lib.ListN.{length}
@@ -13,7 +12,6 @@ use Rattle.p0_refusals.specs.declared.Answer.the-variants.{Done}
 use Rattle.p0_refusals.specs.declared.Refusal.the-variants.{Foreign, Full, Unsound}
 use Rattle.p1_letters.specs.Alphabet.{inAlphabet}
 use Rattle.p3_cells.specs.Cells.{limit, isCell, isSound, used, holding}
-use Rattle.p3_cells.specs.declared.Cell.{Cell}
 use Rattle.p3_cells.specs.declared.Composition.{Composition}
 use Rattle.p3_cells.specs.declared.Mode.{Mode}
 use Rattle.p3_cells.specs.declared.Mode.the-variants.{Vietnamese, English}

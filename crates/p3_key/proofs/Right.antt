@@ -1,19 +1,19 @@
 -- What the owner does is document 01's key call: the answer, the composition and the output that an edit leaves are those
 -- of the definitions.
-use Prim.Native.Nat.{ℕ, zero, suc, _+_, _-_, _<_, _≤_}
+use Prim.Native.Nat.{ℕ, zero, suc, _-_, _<_, _≤_}
 use mathlib.Core.Path.{_≡_, refl, sym, ap, _∙_}
 use mathlib.Core.Bool.{Bool, true, false}
 use mathlib.Core.List.{List, [], _∷_, _++_, map}
 use native.Mathlib.Omega.{arith}
 use lib.Dec.{ltb}
-use lib.ListN.{length, getD, take, drop, set, length-append, length-map}
+use lib.ListN.{length, getD, take, drop, set, length-map}
 use lib.Seq.{set-getD, take-append-seam}
-use borrow.Author.Tests.{le-ltb, lt-ltb, ltb-true, ltb-false}
-use Rattle.p0_choice.specs.Choice.{pick, each}
+use borrow.Author.Tests.{ltb-true, ltb-false}
+use Rattle.p0_choice.specs.Choice.{pick}
 use Rattle.p0_refusals.specs.declared.Refusal.{Refusal}
 use Rattle.p0_refusals.specs.declared.Refusal.the-variants.{Foreign, Full, Short, Unsound}
 use Rattle.p1_letters.specs.Alphabet.{inAlphabet, asciiLower}
-use Rattle.p3_cells.specs.Cells.{limit, blank, blanks, isCell, isSound, used, holding}
+use Rattle.p3_cells.specs.Cells.{limit, blank, blanks, isSound, used, holding}
 use Rattle.p3_cells.specs.Text.{shown, textOf}
 use Rattle.p0_refusals.specs.Answers.{writes, refuses, answer, onto, output}
 use Rattle.p0_refusals.proofs.Answers.{refuses-answer, short-answer, writes-answer, writes-output}

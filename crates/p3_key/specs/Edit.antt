@@ -13,8 +13,6 @@ use Rattle.p3_cells.specs.Cells.{limit}
 use Rattle.p3_cells.specs.Text.{shown}
 use Rattle.p3_cells.specs.declared.Cell.{Cell}
 use Rattle.p3_cells.specs.declared.Mode.{Mode}
-use Rattle.p3_cells.specs.declared.Mode.the-variants.{Vietnamese, English}
-use Rattle.p0_refusals.specs.declared.Answer.{Answer}
 use Rattle.p0_refusals.specs.declared.Answer.the-variants.{Done, Refused}
 use Rattle.p3_step.specs.Step.{stepOf}
 use Rattle.p3_step.specs.declared.Change.the-variants.{Nothing}

@@ -4,7 +4,6 @@ use mathlib.Core.Path.{_≡_, refl, _∙_}
 use mathlib.Core.List.{List}
 use lib.ListN.{length, getD}
 use Rattle.p1_letters.specs.Alphabet.{asciiLower}
-use Rattle.p3_cells.specs.Cells.{blank}
 use Rattle.p3_cells.specs.declared.Cell.{Cell}
 use Rattle.p3_row.specs.Row.{rowCells, bases}
 use Rattle.p3_row.proofs.Row.{row-length, row-at, bases-length, bases-at}

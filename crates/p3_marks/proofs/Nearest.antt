@@ -1,7 +1,7 @@
 -- The places of uo, ua and mark in document 01's words: a place is found exactly where it is within reach, fits, and nothing
 -- nearer to the end fits.
 use Prim.Native.Nat.{ℕ, zero, suc, _+_, _-_, _<_, _≤_}
-use mathlib.Core.Path.{_≡_, refl, sym, ap, _∙_}
+use mathlib.Core.Path.{_≡_, refl, sym, ap}
 use mathlib.Core.Bool.{Bool, true, false}
 use mathlib.Core.List.{List}
 use mathlib.Core.Logic.{_⊎_, inl, inr}
@@ -17,7 +17,6 @@ use Rattle.p1_letters.specs.Vowels.{vowels, isVowel}
 use Rattle.p2_input_method.specs.Rules.{markFor}
 use Rattle.p2_input_method.specs.declared.InputMethod.{InputMethod}
 use Rattle.p3_cells.specs.declared.Cell.{Cell}
-use Rattle.p3_cells.specs.declared.Place.{Place}
 use Rattle.p3_cells.specs.declared.Place.the-variants.{Nowhere, At}
 use Rattle.p3_marks.specs.Uo.{baseAt, uoBack, uoPlace}
 use Rattle.p3_marks.specs.Ua.{afterQ, uaPlace}

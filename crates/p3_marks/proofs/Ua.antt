@@ -1,8 +1,8 @@
 -- The ua step's place, as the code comes to it; that cells and the row of their bases have it in common; and where it can be.
-use Prim.Native.Nat.{ℕ, zero, suc, _+_, _-_, _<_, _≤_}
-use mathlib.Core.Path.{_≡_, refl, sym, ap, _∙_}
+use Prim.Native.Nat.{ℕ, zero, suc, _-_, _<_, _≤_}
+use mathlib.Core.Path.{_≡_, refl, _∙_}
 use mathlib.Core.Bool.{Bool, true, false}
-use mathlib.Core.List.{List, [], _∷_}
+use mathlib.Core.List.{List}
 use native.Mathlib.Omega.{arith}
 use lib.Dec.{eqb, ltb}
 use lib.ListN.{length, getD}
@@ -14,7 +14,6 @@ use Rattle.p3_row.specs.Row.{rowCells, bases}
 use Rattle.p3_row.proofs.Row.{row-length}
 use Rattle.p3_marks.specs.Uo.{baseAt}
 use Rattle.p3_marks.specs.Ua.{afterQ, uaPlace}
-use Rattle.p3_cells.specs.declared.Place.{Place}
 use Rattle.p3_cells.specs.declared.Place.the-variants.{Nowhere, At}
 use Rattle.p3_marks.proofs.Base.{row-base, same-base, same-length}
 

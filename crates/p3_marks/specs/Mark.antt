@@ -1,7 +1,7 @@
 -- Document 01, "A key, step by step", *Mark*: "From the last cell back over at most 5, any letters between: the first whose
 -- base with k is a rule takes the result as base and mark; tone and flag stay."
 use Prim.Native.Nat.{ℕ, zero, suc}
-use mathlib.Core.Bool.{Bool, true, false}
+use mathlib.Core.Bool.{Bool}
 use mathlib.Core.List.{List, [], _∷_}
 use lib.Dec.{eqb}
 use lib.ListN.{length, getD, set}

@@ -1,7 +1,7 @@
 -- Document 01, "A key, step by step", *ua*: "Last two bases u a, no q before: the u becomes ư; its tone and flag stay."
 use Prim.Native.Nat.{ℕ, zero, suc, _-_}
-use mathlib.Core.Bool.{Bool, true, false}
-use mathlib.Core.List.{List, [], _∷_}
+use mathlib.Core.Bool.{Bool, false}
+use mathlib.Core.List.{List}
 use lib.Dec.{eqb, ltb}
 use lib.ListN.{length, getD, set}
 use Rattle.p0_choice.specs.Choice.{pick}

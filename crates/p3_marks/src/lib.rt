@@ -1,7 +1,5 @@
 // Where the uo, ua and mark steps change cells (bamboo.rs: process_key, find_mark_backtrack), over a lent row of bases.
 ghost use mathlib.Core.Path.{_≡_};
-ghost use Prim.Native.Nat.{_<_};
-ghost use lib.ListN.{length};
 ghost use Rattle.p3_row.specs.Row.{rowCells};
 ghost use Rattle.p3_marks.specs.Uo.{uoPlace};
 ghost use Rattle.p3_marks.specs.Ua.{uaPlace};

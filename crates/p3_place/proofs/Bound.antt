@@ -1,6 +1,6 @@
 -- The tone goes to one of the syllable's vowels that are kept, or to the last cell: so what holds of each vowel's place
 -- holds of the tone's, and it is a cell's.
-use Prim.Native.Nat.{ℕ, zero, suc, _+_, _-_, _<_, _≤_}
+use Prim.Native.Nat.{ℕ, _+_, _-_, _<_}
 use mathlib.Core.Path.{_≡_, refl}
 use mathlib.Core.Bool.{Bool, true, false}
 use mathlib.Core.List.{List, [], _∷_}

@@ -1,6 +1,6 @@
 -- Pairs of letters that are one of a list of words, as the arms of a match on the first letter and then on the second.
 use Prim.Native.Nat.{ℕ}
-use mathlib.Core.Path.{_≡_, refl, sym, ap, _∙_}
+use mathlib.Core.Path.{_≡_, refl}
 use mathlib.Core.Bool.{Bool, true, false}
 use mathlib.Core.List.{List, [], _∷_}
 use native.Mathlib.Omega.{arith}
@@ -10,7 +10,7 @@ use types.Run.{OneOf}
 use borrow.Author.Tests.{eqb-true}
 use Rattle.p0_choice.specs.Choice.{pick, among, each}
 use Rattle.p0_choice.proofs.Tables.{pick-first, pick-second}
-use Rattle.p0_choice.proofs.Arms.{Missed, missed, amongAny, arm-among, rest-among, not-yes}
+use Rattle.p0_choice.proofs.Arms.{Missed, missed, amongAny, arm-among, rest-among}
 use Rattle.p3_place.specs.Place.{pairIn}
 
 -- the second letters of the words that begin with a

@@ -1,14 +1,11 @@
 -- Cells in use and the row of their bases have their vowel and their tone place in common: what the code finds in the row
 -- is what document 01 says of the cells.
-use Prim.Native.Nat.{ℕ, zero, suc, _+_, _-_, _<_, _≤_}
-use mathlib.Core.Path.{_≡_, refl, sym, ap, _∙_}
+use Prim.Native.Nat.{ℕ, _+_, _-_}
+use mathlib.Core.Path.{_≡_, refl, _∙_}
 use mathlib.Core.Bool.{Bool, true, false}
-use mathlib.Core.List.{List, [], _∷_, map}
-use native.Mathlib.Omega.{arith}
-use lib.ListN.{length, getD, drop}
+use mathlib.Core.List.{List, [], _∷_}
+use lib.ListN.{length, getD}
 use Rattle.p0_choice.specs.Choice.{pick, each}
-use Rattle.p1_letters.specs.Alphabet.{asciiLower}
-use Rattle.p1_letters.specs.Vowels.{isVowel}
 use Rattle.p3_cells.specs.Cells.{blank, isCell}
 use Rattle.p3_cells.specs.Text.{letterOf}
 use Rattle.p3_cells.specs.declared.Cell.{Cell}

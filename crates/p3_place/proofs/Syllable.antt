@@ -1,12 +1,10 @@
 -- The last syllable: where the code finds its start, from the end of the row back.
 use Prim.Native.Nat.{ℕ, zero, suc, _+_, _-_, _<_, _≤_}
-use mathlib.Core.Path.{_≡_, refl, sym, ap, _∙_}
+use mathlib.Core.Path.{_≡_, refl, sym, _∙_}
 use mathlib.Core.Bool.{Bool, true, false}
 use mathlib.Core.List.{List, [], _∷_}
 use native.Mathlib.Omega.{arith}
-use native.Mathlib.Numerals.{add-one}
 use lib.ListN.{length, getD, drop, length-drop, drop-of-length-le}
-use lib.Seq.{drop-cons}
 use Rattle.p0_choice.specs.Choice.{pick}
 use Rattle.p1_letters.specs.Alphabet.{isSeparator}
 use Rattle.p3_cells.specs.Cells.{blank}

@@ -1,24 +1,22 @@
 -- What is dropped from the syllable's vowels, and which of the others is chosen, as the code goes through them.
 use Prim.Native.Nat.{ℕ, zero, suc, _+_, _-_, _<_, _≤_}
-use mathlib.Core.Path.{_≡_, refl, sym, ap, _∙_}
+use mathlib.Core.Path.{_≡_, refl, ap, _∙_}
 use mathlib.Core.Bool.{Bool, true, false}
 use mathlib.Core.List.{List, [], _∷_}
 use native.Mathlib.Omega.{arith}
-use lib.Dec.{eqb, ltb}
-use lib.ListN.{length, getD, take, drop, length-take, length-drop}
-use lib.Seq.{getD-drop, getD-take, length-take-le}
+use lib.ListN.{length, getD, take, drop, length-drop}
+use lib.Seq.{getD-drop, length-take-le}
 use borrow.Author.Tests.{lt-ltb, le-ltb, eq-eqb, ne-eqb}
-use Rattle.p0_choice.specs.Choice.{pick}
 use Rattle.p1_letters.specs.Alphabet.{asciiLower}
 use Rattle.p3_cells.specs.Cells.{blank}
 use Rattle.p3_cells.specs.Text.{letterOf}
 use Rattle.p3_cells.specs.declared.Cell.{Cell}
-use Rattle.p3_row.specs.Row.{bare, rowCells}
+use Rattle.p3_row.specs.Row.{rowCells}
 use Rattle.p3_row.proofs.Row.{row-length, row-at}
-use Rattle.p3_place.specs.Place.{lowLetter, lowBase, glidingPair, glides, kept, risingPair, rises, chosen, placeOf, lastSyllable, syllableStart, vowelPlaces, tonePlace}
+use Rattle.p3_place.specs.Place.{lowLetter, lowBase, glidingPair, glides, kept, risingPair, rises, chosen, placeOf, syllableStart, vowelPlaces, tonePlace}
 use Rattle.p3_place.specs.Places.{Below}
 use Rattle.p3_place.proofs.Syllable.{last-drop}
-use Rattle.p3_place.proofs.Places.{below-at, below-drop, row-vowels-below}
+use Rattle.p3_place.proofs.Places.{below-drop, row-vowels-below}
 
 -- ---- "where the first stands second in the syllable, and the bases read q u or g i, drop that first"
 low-base : (row : List ℕ) (start i j : ℕ) → start + j ≡ i → lowBase (getD (drop start (rowCells row)) j blank) ≡ asciiLower (getD row i 0)

@@ -1,17 +1,16 @@
 -- The vowels of a row: whether there is one, and the places of those from a place on, as the code scans for them.
-use Prim.Native.Nat.{ℕ, zero, suc, _+_, _<_, _≤_}
-use mathlib.Core.Path.{_≡_, refl, sym, ap, _∙_}
+use Prim.Native.Nat.{ℕ, _+_, _<_, _≤_}
+use mathlib.Core.Path.{_≡_, refl, sym, ap}
 use mathlib.Core.Bool.{Bool, true, false, not}
 use mathlib.Core.List.{List, [], _∷_, _++_, append-assoc}
-use native.Mathlib.Omega.{arith}
 use native.Mathlib.Numerals.{add-one}
-use lib.ListN.{length, getD, take, drop, set, drop-of-length-le, length-set}
+use lib.ListN.{length, getD, take, drop, set, drop-of-length-le}
 use lib.Seq.{take-suc-set}
 use borrow.Author.Tests.{not-true, not-false}
 use Rattle.p0_choice.specs.Choice.{pick}
 use Rattle.p1_letters.specs.Vowels.{isVowel}
 use Rattle.p3_cells.specs.Text.{letterOf}
-use Rattle.p3_row.specs.Row.{bare, rowCells}
+use Rattle.p3_row.specs.Row.{rowCells}
 use Rattle.p3_row.proofs.Row.{row-length, row-turn}
 use Rattle.p3_place.specs.Place.{anyVowel, vowelPlaces}
 

@@ -5,7 +5,7 @@ ghost use Prim.Native.Nat.{_<_, _≤_};
 ghost use lib.ListN.{length, getD, take, drop};
 ghost use Rattle.p3_cells.specs.Cells.{limit, blank};
 ghost use Rattle.p3_row.specs.Row.{rowCells};
-ghost use Rattle.p3_place.specs.Place.{anyVowel, lastSyllable, syllableStart, vowelPlaces, glidingPair, kept, risingPair, rises, chosen as chosenOf, tonePlace};
+ghost use Rattle.p3_place.specs.Place.{anyVowel, syllableStart, vowelPlaces, glidingPair, kept, risingPair, rises, chosen as chosenOf, tonePlace};
 ghost use Rattle.p3_place.specs.Places.{Below};
 use p1_letters as letters;
 use p3_cells::LIMIT;

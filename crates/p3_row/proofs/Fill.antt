@@ -1,13 +1,13 @@
 -- Filling a row with the bases of cells, from its start.
 use Prim.Native.Nat.{ℕ, zero, suc, _+_, _<_}
-use mathlib.Core.Path.{_≡_, refl, ap, _∙_}
+use mathlib.Core.Path.{_≡_, refl, ap}
 use mathlib.Core.List.{List, [], _∷_}
 use native.Mathlib.Omega.{arith}
 use native.Mathlib.Numerals.{add-one}
 use lib.ListN.{length, getD, take, set}
 use Rattle.p3_cells.specs.Cells.{blank}
 use Rattle.p3_cells.specs.declared.Cell.{Cell}
-use Rattle.p3_row.specs.Row.{baseOf, bases}
+use Rattle.p3_row.specs.Row.{bases}
 
 -- the first i of the row are the cells' bases
 unfoldable pub Filled : List Cell → List ℕ → ℕ → Type 0

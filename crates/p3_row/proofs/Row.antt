@@ -1,12 +1,11 @@
 -- What a finder reads in a row, as cells; and cells whose letters are their bases, as all cells in use are: they and the
 -- row of their bases have the same letters.
 use Prim.Native.Nat.{ℕ, zero, suc, _+_, _<_}
-use mathlib.Core.Path.{_≡_, refl, sym, ap, _∙_}
-use mathlib.Core.Bool.{Bool, true, false}
-use mathlib.Core.List.{List, [], _∷_, map}
-use native.Mathlib.Omega.{arith}
+use mathlib.Core.Path.{_≡_, refl}
+use mathlib.Core.Bool.{true}
+use mathlib.Core.List.{List, [], _∷_}
 use native.Mathlib.Numerals.{add-one}
-use lib.ListN.{length, getD, drop, take, length-map, List·getD-map}
+use lib.ListN.{length, getD, drop, length-map, List·getD-map}
 use lib.Seq.{drop-cons}
 use Rattle.p0_choice.specs.Choice.{each}
 use Rattle.p3_cells.specs.Cells.{blank, isCell}

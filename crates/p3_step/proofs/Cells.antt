@@ -1,10 +1,10 @@
 -- The cells of a step, change by change.
 use Prim.Native.Nat.{ℕ, _%_}
 use mathlib.Core.Path.{_≡_, refl}
-use mathlib.Core.Bool.{Bool, true, false}
+use mathlib.Core.Bool.{false}
 use Rattle.p3_cells.specs.Cells.{typed}
 use Rattle.p3_cells.specs.declared.Cell.{Cell}
-use Rattle.p3_marks.specs.Uo.{hornU, hornO}
+use Rattle.p3_marks.specs.Uo.{hornU}
 use Rattle.p3_marks.specs.Ua.{marked}
 use Rattle.p3_step.specs.Step.{putCell, alsoCell}
 use Rattle.p3_step.specs.declared.Change.{Change}

@@ -1,10 +1,9 @@
 -- The step as numbers is document 01's step: stored in an array that begins with the cells, it makes the cells after the key.
-use Prim.Native.Nat.{ℕ, zero, suc, _+_, _-_, _%_, _<_, _≤_}
+use Prim.Native.Nat.{ℕ, suc, _+_, _-_, _%_, _<_, _≤_}
 use mathlib.Core.Path.{_≡_, refl, sym, ap, _∙_}
 use mathlib.Core.Bool.{Bool, true, false}
-use mathlib.Core.List.{List, [], _∷_, _++_, append-assoc}
+use mathlib.Core.List.{List, [], _∷_, _++_}
 use native.Mathlib.Omega.{arith}
-use native.Mathlib.Numerals.{add-one}
 use lib.ListN.{length, getD, drop, set, length-append, length-set, List·getD-append}
 use lib.Seq.{set-set, set-append-left, set-append-seam, append-snoc}
 use Rattle.p0_choice.specs.Choice.{pick}
@@ -27,7 +26,7 @@ use Rattle.p3_marks.proofs.Ua.{ua-below}
 use Rattle.p3_marks.proofs.Mark.{place-marks}
 use Rattle.p3_step.specs.Key.{withTone, toneMade, appended, markOrLater, hornOrLater, keyCells}
 use Rattle.p3_step.specs.Step.{toneFor, uoFor, uaFor, markAt, markStep, uaStep, uoStep, stepOf, putCell, alsoCell}
-use Rattle.p3_step.specs.declared.Change.the-variants.{Nothing, Tone, Mark, Pair, Append}
+use Rattle.p3_step.specs.declared.Change.the-variants.{Tone, Pair, Append}
 use Rattle.p3_step.specs.declared.Step.{Step}
 
 -- the cell that a step puts at its place of an array

@@ -4,7 +4,7 @@ use mathlib.Core.Path.{_≡_, refl}
 use mathlib.Core.Bool.{true}
 use mathlib.Core.List.{List}
 use lib.ListN.{length}
-use Rattle.p0_choice.specs.Choice.{pick, each}
+use Rattle.p0_choice.specs.Choice.{each}
 use Rattle.p2_input_method.specs.Rules.{markFor}
 use Rattle.p2_input_method.specs.declared.InputMethod.{InputMethod}
 use Rattle.p3_cells.specs.Cells.{isCell}
@@ -22,7 +22,6 @@ use Rattle.p3_marks.proofs.Ua.{ua-same}
 use Rattle.p3_marks.proofs.Mark.{mark-same}
 use Rattle.p3_step.specs.Step.{toneFor, uoFor, uaFor, markAt, markStep, uaStep, uoStep, stepOf}
 use Rattle.p3_step.specs.declared.Change.the-variants.{Append}
-use Rattle.p3_step.specs.declared.Step.{Step}
 
 mark-step-same : (m : InputMethod) (cs : List Cell) (k : ℕ) → markStep m (rowCells (bases cs)) k ≡ markStep m cs k
 unfolding markStep

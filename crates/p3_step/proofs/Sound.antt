@@ -1,9 +1,8 @@
 -- The cells after a key are as soundness asks, where those before it are and the key is a letter.
-use Prim.Native.Nat.{ℕ, zero, suc, _+_, _<_, _≤_}
+use Prim.Native.Nat.{ℕ, suc, _<_}
 use mathlib.Core.Path.{_≡_, refl}
 use mathlib.Core.Bool.{Bool, true, false}
 use mathlib.Core.List.{List, [], _∷_, _++_}
-use native.Mathlib.Omega.{arith}
 use lib.ListN.{length, getD, set}
 use Rattle.p0_choice.specs.Choice.{pick, among, each}
 use Rattle.p0_choice.specs.Text.{word}

@@ -1,23 +1,21 @@
 -- The step of a key, as the code comes to it: f is the place that was found.
-use Prim.Native.Nat.{ℕ, zero, suc, _+_, _^_, _<_, _≤_}
-use mathlib.Core.Path.{_≡_, refl, sym, ap, _∙_}
+use Prim.Native.Nat.{ℕ, suc, _+_, _^_, _<_, _≤_}
+use mathlib.Core.Path.{_≡_, refl, sym, _∙_}
 use mathlib.Core.Bool.{Bool, true, false, not}
 use mathlib.Core.List.{List}
 use native.Mathlib.Omega.{arith}
 use lib.ListN.{length, getD}
-use borrow.Author.Tests.{not-true, not-false}
+use borrow.Author.Tests.{not-false}
 use Rattle.p0_choice.specs.Choice.{pick}
 use Rattle.p1_letters.specs.Alphabet.{asciiLower}
 use Rattle.p2_input_method.specs.Rules.{isToneKey, isHornKey, markFor}
 use Rattle.p2_input_method.specs.declared.InputMethod.{InputMethod}
 use Rattle.p3_cells.specs.Cells.{limit}
-use Rattle.p3_cells.specs.declared.Cell.{Cell}
 use Rattle.p3_row.specs.Row.{rowCells}
 use Rattle.p3_row.proofs.Row.{row-length}
 use Rattle.p3_place.specs.Place.{anyVowel, tonePlace}
 use Rattle.p3_place.proofs.Bound.{vowel-some}
-use Rattle.p3_marks.specs.Uo.{baseAt, uoPlace}
-use Rattle.p3_marks.specs.Ua.{uaPlace}
+use Rattle.p3_marks.specs.Uo.{uoPlace}
 use Rattle.p3_marks.specs.Mark.{markPlace}
 use Rattle.p3_cells.specs.declared.Place.{Place}
 use Rattle.p3_cells.specs.declared.Place.the-variants.{Nowhere, At}
@@ -25,7 +23,7 @@ use Rattle.p3_marks.proofs.Base.{row-base}
 use Rattle.p3_marks.proofs.Uo.{uo-below}
 use Rattle.p3_marks.proofs.Mark.{place-marks}
 use Rattle.p3_step.specs.Step.{toneFor, uoFor, uaFor, markStep, uaStep, uoStep, stepOf}
-use Rattle.p3_step.specs.declared.Change.the-variants.{Nothing, Tone, Mark, Pair, Append}
+use Rattle.p3_step.specs.declared.Change.the-variants.{Tone, Mark, Pair, Append}
 use Rattle.p3_step.specs.declared.Step.{Step}
 
 module _ (m : InputMethod) (row : List ℕ) (k : ℕ) (f : Place) where

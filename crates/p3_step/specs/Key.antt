@@ -1,8 +1,7 @@
 -- Document 01, "A key, step by step": "the first step that fits ends it", over the cells in use.
 use Prim.Native.Nat.{ℕ}
-use mathlib.Core.Bool.{Bool, true, false}
 use mathlib.Core.List.{List, [], _∷_, _++_}
-use lib.ListN.{length, getD, set}
+use lib.ListN.{getD, set}
 use Rattle.p0_choice.specs.Choice.{pick}
 use Rattle.p1_letters.specs.Alphabet.{asciiLower}
 use Rattle.p2_input_method.specs.Rules.{isToneKey, isHornKey}

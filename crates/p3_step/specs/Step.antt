@@ -1,8 +1,7 @@
 -- How the code holds the step of a key: the place of a cell, what comes there, and how many cells there are then. That
 -- these numbers are document 01's step, keyCells, is proved (proofs/Key).
 use Prim.Native.Nat.{ℕ, _+_, _%_}
-use mathlib.Core.Bool.{Bool, true, false}
-use mathlib.Core.List.{List, [], _∷_}
+use mathlib.Core.List.{List}
 use lib.ListN.{length}
 use Rattle.p0_choice.specs.Choice.{pick}
 use Rattle.p2_input_method.specs.Rules.{isToneKey, isHornKey, markFor}

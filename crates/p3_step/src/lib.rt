@@ -1,7 +1,7 @@
 // The step of a key (bamboo.rs: process_key), the first that fits, over a lent row of bases: as numbers, since a
 // composition by value would be copied at each step.
 ghost use mathlib.Core.Path.{_≡_};
-ghost use Prim.Native.Nat.{_<_, _≤_};
+ghost use Prim.Native.Nat.{_≤_};
 ghost use lib.ListN.{length};
 ghost use Rattle.p3_cells.specs.Cells.{limit};
 ghost use Rattle.p3_row.specs.Row.{rowCells};

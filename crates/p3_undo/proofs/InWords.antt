@@ -1,11 +1,11 @@
 -- Undo in document 01's words: the cell is the last that fits, and the rule the first that has such a cell.
 use Prim.Native.Nat.{ℕ, zero, suc, _<_, _≤_}
-use mathlib.Core.Path.{_≡_, refl, sym, ap, _∙_}
+use mathlib.Core.Path.{_≡_, refl, sym, ap}
 use mathlib.Core.Bool.{Bool, true, false}
 use mathlib.Core.List.{List, [], _∷_, _++_}
 use mathlib.Core.Logic.{_⊎_, inl, inr}
 use native.Mathlib.Omega.{arith}
-use lib.ListN.{length, getD}
+use lib.ListN.{getD}
 use Rattle.p0_choice.specs.Choice.{pick}
 use Rattle.p0_choice.proofs.Numbers.{below-or-not}
 use Rattle.p2_input_method.specs.declared.MarkRule.{MarkRule}
@@ -16,7 +16,7 @@ use Rattle.p3_cells.specs.declared.Place.{Place}
 use Rattle.p3_cells.specs.declared.Place.the-variants.{Nowhere, At}
 use Rattle.p3_undo.specs.Undo.{lastWith, ruleAt, byRules}
 use Rattle.p3_undo.specs.declared.Undoing.{Undoing}
-use Rattle.p3_undo.specs.declared.Undoing.the-variants.{Nothing, Tone, Mark}
+use Rattle.p3_undo.specs.declared.Undoing.the-variants.{Nothing, Mark}
 
 -- ---- "the last cell with ..": of the first n cells, i is the last that passes the test
 pub record LastCell (p : Cell → Bool) (cs : List Cell) (n i : ℕ) : Type 0 where

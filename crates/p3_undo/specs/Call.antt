@@ -24,16 +24,11 @@ use Rattle.p3_undo.specs.declared.Undone.{Undone}
 abbrev pub rawLimit : ℕ
 rawLimit = 64
 
--- the refusal's number, 0 for none; and what becomes of the trigger, 0 for append and 1 for consume
+-- the refusal's number, 0 for none
 abbrev pub refusalOf : TelexUndo → ℕ
 refusalOf Append = 0
 refusalOf Consume = 0
 refusalOf (Refused r) = numberOf r
-
-abbrev pub triggerOf : TelexUndo → ℕ
-triggerOf Append = 0
-triggerOf Consume = 1
-triggerOf (Refused r) = 0
 
 abbrev pub toldOf : UndoBehavior → TelexUndo
 toldOf AppendTrigger = Append

@@ -1,6 +1,6 @@
 -- A letter in lower case without its tone: a rule that holds of the letters that neither changes, and of the others by a
 -- test that antt computes, holds of every letter. So an accepted word has letters of the alphabet alone.
-use Prim.Native.Nat.{ℕ, zero, suc, _+_, _-_, _%_, _≤_, _<_}
+use Prim.Native.Nat.{ℕ, zero, suc, _+_, _-_, _%_}
 use mathlib.Core.Path.{_≡_, refl, sym, ap, ap₂, _∙_, subst}
 use mathlib.Core.Logic.{_⊎_, inl, inr, ⊎-elim}
 use mathlib.Core.Bool.{Bool, true, false}
@@ -8,7 +8,7 @@ use mathlib.Core.List.{List, [], _∷_, _++_, map}
 use native.Mathlib.Omega.{arith}
 use lib.Dec.{T, ltb, leb, eqb, eqb→eq}
 use lib.ListN.{getD}
-use borrow.Author.Tests.{ltb-false, leb-true, eqb-true, eqb-false}
+use borrow.Author.Tests.{ltb-false, leb-true}
 use Rattle.p0_choice.specs.Choice.{pick, among, each, count, same}
 use Rattle.p0_choice.specs.Text.{word, words, wordsFrom}
 use Rattle.p0_choice.proofs.Tables.{each-among, same-true, among-left, among-right, among-map, among-count}

@@ -1,8 +1,7 @@
 -- What `word_number` and `next_word` answer, and leave in the output, is what they have to write, from what the calls in
 -- them answer.
 use Prim.Native.Nat.{ℕ, _≤_, _<_}
-use mathlib.Core.Path.{_≡_, refl, sym, ap, _∙_, subst}
-use mathlib.Core.Logic.{⊎-elim}
+use mathlib.Core.Path.{_≡_, refl, sym, ap, _∙_}
 use mathlib.Core.Bool.{Bool, true, false}
 use mathlib.Core.List.{List, _++_}
 use native.Mathlib.Omega.{arith}
@@ -16,7 +15,7 @@ use Rattle.p0_refusals.proofs.Answers.{refuses-answer, refuses-output, short-an
 use Rattle.p1_letters.specs.Alphabet.{allLetters}
 use Rattle.p4_rows.specs.Rows.{Word}
 use Rattle.p5_trie.specs.Trie.{Trie, size, nth, upTo}
-use Rattle.p5_trie.specs.Numbering.{Many, Named, Unnamed}
+use Rattle.p5_trie.specs.Numbering.{Many}
 use Rattle.p5_trie.proofs.Unique.{one-total, one-numbering}
 use Rattle.p5_trie.proofs.Numbering as Tries
 use Rattle.p5_listing.specs.Listed.{Listed}

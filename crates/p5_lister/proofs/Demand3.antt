@@ -2,22 +2,21 @@
 -- the number n, and `Answers (NextMeans Listed w) o a out` what the next word after w answers and leaves in the output.
 use Prim.Native.Nat.{ℕ, suc, _≤_, _<_}
 use mathlib.Core.Path.{_≡_, refl, sym, _∙_, subst}
-use mathlib.Core.Bool.{true, false}
 use mathlib.Core.List.{List}
 use native.Mathlib.Omega.{arith}
 use lib.Dec.{T}
 use lib.ListN.{length}
 use Rattle.p0_refusals.specs.declared.Refusal.{Refusal}
-use Rattle.p0_refusals.specs.declared.Refusal.the-variants.{Short, NoWord}
+use Rattle.p0_refusals.specs.declared.Refusal.the-variants.{NoWord}
 use Rattle.p0_refusals.specs.declared.Answer.{Answer}
 use Rattle.p0_refusals.specs.declared.Answer.the-variants.{Done, Refused}
-use Rattle.p0_refusals.specs.Answers.{Outcome, writes, refuses, onto}
+use Rattle.p0_refusals.specs.Answers.{writes, refuses, onto}
 use Rattle.p0_refusals.proofs.Answers.{refuses-answer, refuses-output, writes-answer, writes-output}
 use Rattle.p4_rows.specs.Rows.{Word}
 use Rattle.p4_spelling.specs.Verdict.{verdict}
 use Rattle.p5_trie.specs.Order.{Before}
 use Rattle.p5_trie.specs.Numbering.{Named, Follows, Last}
-use Rattle.p5_trie.proofs.Unique.{has-name, name-has, one-name, names-ascend, no-name-between, follows-or-last}
+use Rattle.p5_trie.proofs.Unique.{has-name, name-has, one-name, names-ascend, no-name-between}
 use Rattle.p5_listing.specs.Listed.{plain, Listed}
 use Rattle.p5_listing.proofs.Numbering.{accepted-has-number, number-is-accepted}
 use Rattle.p5_listing.proofs.Counts.{counts}

@@ -1,17 +1,14 @@
 -- What the lister has to write is one thing (`one-number-outcome`, `one-next-outcome`): no second answer fits its contracts,
 -- and no second output.
-use Prim.Native.Nat.{ℕ, _≤_, _<_}
-use mathlib.Core.Path.{_≡_, refl, sym, ap, _∙_, subst}
+use Prim.Native.Nat.{ℕ}
+use mathlib.Core.Path.{_≡_, sym, ap, _∙_}
 use mathlib.Core.Bool.{true, false}
 use native.Mathlib.Omega.{arith}
-use lib.ListN.{length}
-use Rattle.p0_refusals.specs.declared.Refusal.the-variants.{Foreign, Long, NoWord}
-use Rattle.p0_refusals.specs.Answers.{Outcome, writes, refuses}
+use Rattle.p0_refusals.specs.Answers.{Outcome, writes}
 use Rattle.p1_letters.specs.Alphabet.{allLetters}
 use Rattle.p4_rows.specs.Rows.{Word}
-use Rattle.p5_trie.specs.Numbering.{Named, Unnamed, Follows, Last}
 use Rattle.p5_trie.proofs.Unique.{one-named, named-or-not, one-follows, follows-or-last}
-use Rattle.p5_lister.specs.Meaning.{NumberMeans, word, none, Permitted, NextMeans, long, foreign, last, next}
+use Rattle.p5_lister.specs.Meaning.{NumberMeans, word, none, NextMeans, long, foreign, last, next}
 
 pub never-both : (w : Word) → allLetters w ≡ true → allLetters w ≡ false → ⊥
 never-both w a b = let z : _≡_ {A = ℕ} 0 1 = cc in omega arith

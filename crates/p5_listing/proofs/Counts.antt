@@ -1,6 +1,6 @@
 -- Document 01's counts of the listed words and their longest: antt counts the words of the table of each kind.
 use Prim.Native.Nat.{ℕ, suc, _≤_}
-use mathlib.Core.Path.{_≡_, refl, sym, ap, _∙_, subst}
+use mathlib.Core.Path.{_≡_, refl, _∙_, subst}
 use mathlib.Core.Logic.{⊎-elim}
 use mathlib.Core.Bool.{Bool, true, false}
 use mathlib.Core.List.{List, [], _∷_}
@@ -12,21 +12,20 @@ use Rattle.p0_choice.specs.Text.{word, words, wordsFrom}
 use Rattle.p0_choice.proofs.Numbers.{below-or-not}
 use Rattle.p1_letters.specs.Vowels.{isSpellingVowel, vowels}
 use Rattle.p4_rows.specs.Rows.{Word}
-use Rattle.p4_rows.specs.Lookup.{inList, isEmpty}
-use Rattle.p4_rows.proofs.Words.{both-of, each-in}
+use Rattle.p4_rows.specs.Lookup.{isEmpty}
+use Rattle.p4_rows.proofs.Words.{each-in}
 use Rattle.p4_spelling.specs.Cut.{beforeVowel, vowelRun, isGlue, startsGlued, onsetEnd, onsetOf, vowelsOf}
 use Rattle.p4_spelling.specs.Verdict.{verdict}
 use Rattle.p4_spelling.proofs.Folding.{too-long}
 use Rattle.p5_trie.specs.Trie.{Trie, size, nth}
-use Rattle.p5_trie.specs.Numbering.{Many}
 use Rattle.p5_trie.proofs.Tests.{holds}
 use Rattle.p5_trie.proofs.Numbering as Tries
 use Rattle.p5_trie.proofs.Kept.{kept, kept-lists}
-use Rattle.p5_listing.specs.Listed.{plain, Listed}
+use Rattle.p5_listing.specs.Listed.{Listed}
 use Rattle.p5_listing.specs.Counts.{isBareOnset, isWithoutOnset, hasBoth, ManyListed, Counts}
 use Rattle.p5_listing.specs.Cells.{letters, stops, downs, nexts, grow, trieAt, listing}
 use Rattle.p5_listing.proofs.Plain.{Toneless, plain-toneless}
-use Rattle.p5_listing.proofs.Quick.{lazily, quickAmong, quick-vowel}
+use Rattle.p5_listing.proofs.Quick.{quickAmong, quick-vowel}
 use Rattle.p5_listing.proofs.Numbering.{lists, numbering}
 
 -- ---- the kinds in a form that antt computes fast: a bare onset has no vowel, and a word without onset starts with one

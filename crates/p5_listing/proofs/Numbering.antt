@@ -1,14 +1,13 @@
 -- Demand 3 of the table: it holds the listed words and no others, so `nth listing` numbers them from 0 to 5,962, and the word
 -- at number `upTo listing w` follows w. A word is accepted exactly if its lower-case toneless form has a number.
-use Prim.Native.Nat.{ℕ, _≤_, _<_}
+use Prim.Native.Nat.{ℕ, _<_}
 use mathlib.Core.Path.{_≡_, sym, ap, _∙_, subst}
-use native.Mathlib.Omega.{arith}
 use lib.Dec.{T, eqb}
 use Rattle.p4_rows.specs.Rows.{Word}
 use Rattle.p4_spelling.specs.Verdict.{verdict}
 use Rattle.p4_spelling.proofs.Letters.{plainLetter}
-use Rattle.p5_trie.specs.Trie.{size, nth, upTo}
-use Rattle.p5_trie.specs.Numbering.{Found, Numbering, Named, Follows, Last}
+use Rattle.p5_trie.specs.Trie.{size, nth}
+use Rattle.p5_trie.specs.Numbering.{Found, Numbering, Named}
 use Rattle.p5_trie.proofs.Tests.{holds}
 use Rattle.p5_trie.proofs.Words.{Numbered, sorted, numbered, every-nth, letters-nth}
 use Rattle.p5_trie.proofs.Numbering as Tries
@@ -46,12 +45,6 @@ lists = record { sorted = sorted listing sorted-listing; only = held-listed; all
 
 pub numbering : Numbering Listed (nth listing) 5963
 numbering = subst (λ (n : ℕ). Numbering Listed (nth listing) n) size-listing (Tries.numbering lists)
-
-pub follows : (w : Word) → upTo listing w < 5963 → Follows Listed w (nth listing (upTo listing w))
-follows w h = Tries.follows lists w (omega (arith, size-listing))
-
-pub last : (w : Word) → 5963 ≤ upTo listing w → Last Listed w
-last w h = Tries.last lists w (omega (arith, size-listing))
 
 -- "A word is accepted exactly if its lower-case toneless form is listed."
 pub accepted-has-number : (w : Word) → T (verdict w) → (n : ℕ) × Named Listed n (plain w)

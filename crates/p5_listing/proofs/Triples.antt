@@ -10,7 +10,7 @@ use lib.ListN.{length}
 use Rattle.p0_choice.specs.Choice.{pick}
 use Rattle.p0_choice.specs.Text.{word, words, wordsFrom}
 use Rattle.p4_rows.specs.Rows.{Word, onsetRows, vowelRows, codaRows, onsetToVowels, vowelsToCoda}
-use Rattle.p4_rows.specs.Lookup.{sameWord, inList, rowsFrom, rowsOf, isEmpty, listed, allows, allowsAny, goTogether}
+use Rattle.p4_rows.specs.Lookup.{sameWord, inList, rowsFrom, rowsOf, listed, allows, allowsAny, goTogether}
 use Rattle.p4_spelling.specs.Verdict.{hasForeign, listedIfAny, onsetFits, codaFits, partsFit}
 use Rattle.p5_listing.specs.Triples.{once, unforeign, onsets, vowelParts, codas, howMany, pairs, fitting, triples}
 

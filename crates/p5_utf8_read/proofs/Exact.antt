@@ -9,7 +9,7 @@ use lib.ListN.{length, drop, length-drop}
 use lib.Seq.{drop-append-seam}
 use Rattle.p0_choice.specs.Choice.{pick}
 use Rattle.p0_refusals.specs.declared.Refusal.{Refusal}
-use Rattle.p0_refusals.specs.declared.Refusal.the-variants.{Foreign, Short, Malformed}
+use Rattle.p0_refusals.specs.declared.Refusal.the-variants.{Foreign, Malformed}
 use Rattle.p1_letters.specs.Alphabet.{inAlphabet, allLetters}
 use Rattle.p5_utf8.specs.declared.Char.{Char}
 use Rattle.p5_utf8.specs.declared.Char.the-variants.{Malformed as NoChar, Scalar}

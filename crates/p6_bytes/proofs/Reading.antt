@@ -1,12 +1,10 @@
 -- Reading bytes: a cell, and the cells in use with blank ones after them.
 use Prim.Native.Nat.{ℕ, zero, suc, _+_, _*_, _-_, _≤_, _<_}
 use mathlib.Core.Path.{_≡_, refl, sym, ap, _∙_}
-use mathlib.Core.Bool.{Bool, true, false}
 use mathlib.Core.List.{List, [], _∷_, _++_, append-assoc}
-use native.Mathlib.Numerals.{add-one}
 use native.Mathlib.Omega.{arith}
 use lib.Dec.{eqb}
-use lib.ListN.{length, getD, take, drop, set, replicate}
+use lib.ListN.{length, getD, set, replicate}
 use lib.Seq.{set-at}
 use Rattle.p0_choice.proofs.Choices.{picks}
 use Rattle.p2_input_method.specs.declared.InputMethod.the-variants.{Telex, Vni}

@@ -6,11 +6,10 @@ use mathlib.Core.Path.{_≡_, refl, sym, ap, _∙_}
 use mathlib.Core.Bool.{Bool, true, false}
 use mathlib.Core.List.{List, [], _∷_, _++_, append-assoc}
 use native.Mathlib.Omega.{arith}
-use lib.Dec.{eqb, leb}
-use lib.ListN.{length, getD, take, drop, length-append, length-drop, take-append-drop}
+use lib.Dec.{eqb}
+use lib.ListN.{length, take, drop, length-append, length-drop, take-append-drop}
 use lib.Seq.{getD-append-add, drop-cons, drop-drop, take-add, take-all}
 use borrow.Author.Tests.{eq-eqb, le-leb, leb-true}
-use Rattle.p0_choice.specs.Choice.{pick, each, count as numbers}
 use Rattle.p2_input_method.specs.declared.InputMethod.{InputMethod}
 use Rattle.p2_input_method.specs.declared.InputMethod.the-variants.{Telex, Vni}
 use Rattle.p3_cells.specs.Cells.{limit, isSound}
@@ -19,8 +18,7 @@ use Rattle.p3_cells.specs.declared.Composition.{Composition}
 use Rattle.p3_cells.specs.declared.Mode.{Mode}
 use Rattle.p3_cells.specs.declared.Mode.the-variants.{Vietnamese, English}
 use Rattle.p0_choice.proofs.Tests.{each-from}
-use Rattle.p6_bytes.specs.Bytes.{head, known, start, size, methodByte, modeByte, flagByte, cellBytes, cellsBytes, zeros, headBytes, bytesOf, byteAt, cellAt, cellsAt, methodOf, modeOf, compositionOf, spellsCell, isZero, reservedZero, bytesSound}
-use Rattle.p6_bytes.proofs.Reading.{cells-length}
+use Rattle.p6_bytes.specs.Bytes.{head, known, size, methodByte, modeByte, flagByte, cellBytes, cellsBytes, zeros, headBytes, bytesOf, byteAt, cellAt, cellsAt, methodOf, modeOf, compositionOf, spellsCell, isZero, reservedZero, bytesSound}
 use Rattle.p6_bytes.proofs.Writing.{cell-length, bytes-length}
 use Rattle.p6_bytes.proofs.Sound.{sound-size, sound-method, sound-mode, sound-reserved, sound-flag}
 

@@ -3,21 +3,20 @@
 use Prim.Native.Nat.{ℕ, zero, suc, _+_, _*_, _-_, _/_, _%_, _≤_, _<_}
 use mathlib.Core.Path.{_≡_, refl, sym, ap, _∙_}
 use mathlib.Core.Bool.{Bool, true, false, not}
-use mathlib.Core.List.{List, [], _∷_, _++_}
-use mathlib.Core.Logic.{_⊎_, inl, inr, ⊎-elim}
+use mathlib.Core.List.{List, _++_}
+use mathlib.Core.Logic.{⊎-elim}
 use native.Mathlib.Omega.{arith}
-use lib.Dec.{eqb, ltb, leb}
+use lib.Dec.{eqb, leb}
 use lib.ListN.{length, getD, length-append, List·getD-append}
 use lib.Seq.{ext-getD, getD-append-add}
-use borrow.Author.Tests.{eq-eqb, eqb-true, eqb-false, le-leb, leb-true, ltb-true, ltb-false, not-true, not-false}
-use Rattle.p0_choice.specs.Choice.{pick, each, count as from}
+use borrow.Author.Tests.{eq-eqb, eqb-true, eqb-false, le-leb, leb-true, not-true, not-false}
+use Rattle.p0_choice.specs.Choice.{each, count as from}
 use Rattle.p0_choice.proofs.Tables.{each-count}
 use Rattle.p0_choice.proofs.Arms.{not-yes}
 use Rattle.p3_cells.specs.Cells.{limit, blank, blanks, isCell, isSound}
 use Rattle.p3_cells.specs.Soundness.{Sound}
 use Rattle.p3_cells.specs.declared.Cell.{Cell}
 use Rattle.p2_input_method.specs.declared.InputMethod.{InputMethod}
-use Rattle.p3_cells.specs.declared.Composition.{Composition}
 use Rattle.p3_cells.specs.declared.Mode.{Mode}
 use Rattle.p3_cells.proofs.Holding.{length-blanks}
 use Rattle.p0_choice.proofs.Numbers.{below-or-not}

@@ -4,8 +4,8 @@ use mathlib.Core.Path.{_≡_, refl, sym, ap, _∙_}
 use mathlib.Core.List.{List, [], _∷_, _++_, append-assoc, append-nil}
 use native.Mathlib.Numerals.{add-one}
 use native.Mathlib.Omega.{arith}
-use lib.ListN.{length, getD, take, drop, set, length-append, length-take, length-drop, length-set, take-append-drop, drop-of-length-le}
-use lib.Seq.{sets-eq, length-take-le, take-at, drop-at, drop-drop, take-suc, take-all, drop-cons, set-at}
+use lib.ListN.{length, getD, take, drop, set, length-append, length-take, take-append-drop, drop-of-length-le}
+use lib.Seq.{sets-eq, length-take-le, take-at, drop-at, drop-drop, take-suc, drop-cons, set-at}
 use Rattle.p3_cells.specs.Cells.{limit, blank, blanks, used, holding}
 use Rattle.p3_cells.specs.declared.Cell.{Cell}
 use Rattle.p3_cells.specs.declared.Composition.{Composition}

@@ -1,7 +1,7 @@
 -- The cells in the parts that the code takes: those in use one by one, and the bytes past them, which are those of blank
 -- cells. proofs/Sound.antt shows that the two tests, after those of the head, are `bytesSound`.
 use Prim.Native.Nat.{ℕ, _-_}
-use mathlib.Core.Bool.{Bool, true, false}
+use mathlib.Core.Bool.{Bool, false}
 use mathlib.Core.List.{List}
 use lib.ListN.{length}
 use Rattle.p0_choice.specs.Choice.{pick, each, count as from}

@@ -24,7 +24,7 @@ use Rattle.p6_bytes.proofs.Round.{written-sound}
 use Rattle.p6_bytes.proofs.Sound.{sound-composition}
 use Rattle.p6_bytes.proofs.Writing.{tidy-count}
 use Rattle.p6_composition.specs.Steps.{undoneStep}
-use Rattle.p6_composition.specs.Calls.{answerOn, after, bytesOn, keyStep, resetStep, literalStep, popStep, undoStep, orUnsound, methodStep, modeStep}
+use Rattle.p6_composition.specs.Calls.{answerOn, after, bytesOn, keyStep, resetStep, literalStep, popStep, undoStep, orUnsound, methodStep, modeStep, newOn, newBytes}
 use Rattle.p6_composition.proofs.Tidy.{Tidy, created-tidy, key-tidy, reset-tidy, literal-tidy, pop-tidy, undo-step-tidy, method-tidy, mode-tidy}
 
 -- a sound composition with blank cells past its count has all its places
@@ -107,3 +107,35 @@ module _ (b : List ℕ) (h : bytesSound b ≡ true) where
 
 pub new-made : (m : InputMethod) → bytesSound (bytesOf (created m)) ≡ true
 new-made m = form-sound (created m) (created-tidy m) (new-sound m)
+
+-- ---- every call on a composition, by name: what it leaves of the bytes b
+pub data Leaves (b : List ℕ) : List ℕ → Type 0 where
+  byNew : (m : ℕ) → Leaves b (newBytes b m)
+  byKey : (key : ℕ) (out : List ℕ) → Leaves b (bytesOn b (keyStep b key out))
+  byText : Leaves b b
+  byLiteral : (l : ℕ) → Leaves b (bytesOn b (literalStep b l))
+  byRemoval : (out : List ℕ) → Leaves b (bytesOn b (popStep b out))
+  byUndo : (t : ℕ) (raw : List ℕ) → Leaves b (bytesOn b (undoStep b t raw))
+  byReset : Leaves b (bytesOn b (resetStep b))
+  byMethod : (m : ℕ) → Leaves b (bytesOn b (methodStep b m))
+  byMode : (o : ℕ) → Leaves b (bytesOn b (modeStep b o))
+
+new-kept : (b : List ℕ) → bytesSound b ≡ true → (m : ℕ) → bytesSound (newBytes b m) ≡ true
+unfolding newBytes
+new-kept b h m = go (newOn b m)
+  where
+    go : (a : Answer) → bytesSound (after a b (created (methodOf m))) ≡ true
+    go (Done n) = new-made (methodOf m)
+    go (Refused r) = h
+
+-- every call keeps a sound composition sound
+pub calls-keep-sound : (b : List ℕ) {d : List ℕ} → bytesSound b ≡ true → Leaves b d → bytesSound d ≡ true
+calls-keep-sound b h (byNew m) = new-kept b h m
+calls-keep-sound b h (byKey key out) = key-kept b h key out
+calls-keep-sound b h byText = h
+calls-keep-sound b h (byLiteral l) = literal-kept b h l
+calls-keep-sound b h (byRemoval out) = pop-kept b h out
+calls-keep-sound b h (byUndo t raw) = undo-kept b h t raw
+calls-keep-sound b h byReset = reset-kept b h
+calls-keep-sound b h (byMethod m) = method-kept b h m
+calls-keep-sound b h (byMode o) = mode-kept b h o

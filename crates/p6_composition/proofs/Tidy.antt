@@ -1,6 +1,6 @@
 -- The compositions that the calls leave have blank cells past their count, so that they can be written.
 use Prim.Native.Nat.{ℕ}
-use mathlib.Core.Path.{_≡_, refl, sym, ap, _∙_}
+use mathlib.Core.Path.{_≡_, refl, ap}
 use mathlib.Core.Bool.{Bool, true, false}
 use mathlib.Core.List.{List}
 use lib.Dec.{ltb, eqb, leb}
@@ -8,10 +8,9 @@ use lib.ListN.{length}
 use Rattle.p0_choice.specs.Choice.{pick}
 use Rattle.p0_choice.proofs.Choices.{pick-both}
 use Rattle.p0_refusals.specs.declared.Answer.{Answer}
-use Rattle.p0_refusals.specs.declared.Refusal.the-variants.{Foreign, Long, Unsound}
 use Rattle.p1_letters.specs.Alphabet.{inAlphabet, allLetters, asciiLower}
 use Rattle.p2_input_method.specs.declared.InputMethod.{InputMethod}
-use Rattle.p3_cells.specs.Cells.{limit, isSound, used, holding}
+use Rattle.p3_cells.specs.Cells.{isSound, used, holding}
 use Rattle.p3_cells.specs.declared.Cell.{Cell}
 use Rattle.p3_cells.specs.declared.Composition.{Composition}
 use Rattle.p3_cells.specs.declared.Mode.{Mode}
@@ -24,13 +23,13 @@ use Rattle.p3_key.specs.Process.{inMode, next, keyNext, keyed}
 use Rattle.p3_calls.specs.Literal.{literal}
 use Rattle.p3_calls.specs.Output.{popped}
 use Rattle.p3_calls.specs.Settings.{empty, created, resetTo, methodSet, turned, enabledSet}
-use Rattle.p3_undo.specs.Call.{rawLimit, refused, undoFound, undoTelex}
+use Rattle.p3_undo.specs.Call.{rawLimit, undoFound, undoTelex}
 use Rattle.p3_undo.specs.Raw.{lowered}
-use Rattle.p3_undo.specs.Undo.{toUndo, undone}
+use Rattle.p3_undo.specs.Undo.{toUndo}
 use Rattle.p3_undo.specs.declared.Undoing.{Undoing}
 use Rattle.p3_undo.specs.declared.Undoing.the-variants.{Nothing, Tone, Mark}
 use Rattle.p3_undo.specs.declared.Undone.{Undone}
-use Rattle.p6_bytes.specs.Bytes.{compositionOf, bytesSound, methodOf}
+use Rattle.p6_bytes.specs.Bytes.{compositionOf, bytesSound}
 use Rattle.p6_bytes.proofs.Sound.{sound-composition}
 use Rattle.p6_bytes.proofs.Reading.{read-full}
 use Rattle.p6_composition.specs.Steps.{undoneStep}

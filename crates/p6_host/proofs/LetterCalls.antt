@@ -1,9 +1,8 @@
 -- The letter calls: what stands in the lent place, given what the callees say of the answer.
 use Prim.Native.Nat.{ℕ}
 use mathlib.Core.Path.{_≡_}
-use mathlib.Core.Bool.{Bool, true, false}
-use Rattle.p0_choice.specs.Choice.{pick}
-use Rattle.p0_choice.proofs.Choices.{calls, call-true, call-false}
+use mathlib.Core.Bool.{Bool, true}
+use Rattle.p0_choice.proofs.Choices.{call-true}
 use Rattle.p1_letters.specs.Alphabet.{inAlphabet}
 use Rattle.p6_host.specs.LetterCalls.{letterCode, letterOut, toneCode, toneOut, flagOf}
 

@@ -1,6 +1,6 @@
 -- The letter calls: "1: a code point outside the alphabet"; otherwise the answer is written.
 use Prim.Native.Nat.{ℕ}
-use mathlib.Core.Bool.{Bool, true, false}
+use mathlib.Core.Bool.{Bool}
 use Rattle.p0_choice.specs.Choice.{pick}
 use Rattle.p0_refusals.specs.Refusals.{numberOf}
 use Rattle.p0_refusals.specs.declared.Refusal.the-variants.{Foreign}

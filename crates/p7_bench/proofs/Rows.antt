@@ -1,16 +1,15 @@
 -- The floor's row: its letters stand at the start of an array, and are copied to the text.
-use Prim.Native.Nat.{ℕ, suc, zero, _+_, _≤_, _<_}
+use Prim.Native.Nat.{ℕ, _+_, _≤_, _<_}
 use mathlib.Core.Path.{_≡_, refl, sym, ap, _∙_}
-use mathlib.Core.List.{List, [], _∷_, _++_}
+use mathlib.Core.List.{List, _++_}
 use native.Mathlib.Omega.{arith}
 use native.Mathlib.Nat.{zero-add}
 use native.Mathlib.Numerals.{add-one}
-use lib.Dec.{eqb, ltb}
+use lib.Dec.{ltb}
 use borrow.Author.Tests.{ltb-false}
 use lib.ListN.{length, take, drop, getD, set, length-set, length-append, length-drop}
-use lib.Seq.{paste-suc, take-suc-set, length-take-le, take-length, take-all}
-use Rattle.p0_choice.specs.Choice.{pick}
-use Rattle.p0_choice.proofs.Choices.{picks, pick-lt, pick-not-lt, pick-eq, pick-ne, pick-both}
+use lib.Seq.{paste-suc, take-suc-set, length-take-le, take-all}
+use Rattle.p0_choice.proofs.Choices.{pick-lt, pick-not-lt, pick-eq, pick-ne, pick-both}
 use Rattle.p7_bench.specs.Run.{after, lineEnd}
 use Rattle.p7_bench.specs.Floor.{Sheet, copied, freePlace, longer, lay, blankSheet}
 use Rattle.p7_bench.proofs.Run.{Run, run-start, run-more, run-end}

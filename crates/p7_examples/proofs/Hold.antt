@@ -1,5 +1,4 @@
 -- The examples hold: one claim over the whole table, which antt computes.
-use mathlib.Core.Bool.{Bool}
 use lib.Dec.{T}
 use Rattle.p0_choice.specs.Choice.{each}
 use Rattle.p0_choice.specs.Text as ChoiceText

@@ -1,2 +1,1 @@
 pub mod Hold
-pub mod Only

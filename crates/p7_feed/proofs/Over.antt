@@ -4,9 +4,7 @@ use mathlib.Core.Path.{_≡_, refl, sym, ap, _∙_}
 use mathlib.Core.Bool.{Bool, true, false}
 use mathlib.Core.List.{List, [], _∷_, _++_, append-nil, append-assoc, flatten}
 use lib.Dec.{eqb}
-use Rattle.p0_choice.specs.Choice.{pick}
-use Rattle.p7_feed.specs.Run.{State, state, hold, endPhase, endOut, stepTo, stepOut, runTo, runOut, partsTo, partsOut, finishOf, finishOut}
-use Rattle.p7_feed.specs.declared.Phase.{Phase}
+use Rattle.p7_feed.specs.Run.{State, state, endPhase, endOut, stepTo, stepOut, runTo, runOut, partsTo, partsOut, finishOf, finishOut}
 use Rattle.p7_feed.specs.declared.Phase.the-variants.{Start, Ended}
 use Rattle.p7_feed.specs.Program.{wordline}
 use Rattle.p7_feed.proofs.Bytes.{cut-to, cut-out}

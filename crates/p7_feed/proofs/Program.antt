@@ -1,6 +1,6 @@
 -- What is printed byte by byte, and at the end, is what document 01 says of the whole input, though a line is held in
 -- bounded memory.
-use Prim.Native.Nat.{ℕ, suc, _+_, _<_, _≤_}
+use Prim.Native.Nat.{ℕ}
 use mathlib.Core.Path.{_≡_, refl, sym, ap, _∙_}
 use mathlib.Core.Bool.{Bool, true, false}
 use mathlib.Core.List.{List, [], _∷_, _++_, append-assoc, append-nil}
@@ -8,9 +8,9 @@ use native.Mathlib.Omega.{arith}
 use lib.Dec.{eqb, ltb}
 use lib.ListN.{length, take, length-append}
 use lib.Seq.{take-all, length-take-le, take-append-le}
-use borrow.Author.Tests.{lt-ltb, le-ltb, ltb-true, ltb-false}
+use borrow.Author.Tests.{le-ltb, ltb-true, ltb-false}
 use Rattle.p0_choice.specs.Choice.{pick}
-use Rattle.p7_line.specs.Line.{most, refusedLine, lineOut}
+use Rattle.p7_line.specs.Line.{most, refusedLine}
 use Rattle.p7_line.specs.Method.{methodOf}
 use Rattle.p7_line.specs.declared.Begun.{Begun}
 use Rattle.p7_line.specs.declared.Begun.the-variants.{With, Refused}
@@ -18,7 +18,7 @@ use Rattle.p7_line.proofs.Bounded.{method-bounded, line-bounded}
 use Rattle.p7_feed.specs.declared.Phase.{Phase}
 use Rattle.p7_feed.specs.declared.Phase.the-variants.{Start, Keys, Ended}
 use Rattle.p7_feed.specs.Program.{linesFrom, allLines, afterMethod, program, wordline}
-use Rattle.p7_feed.specs.Run.{State, state, hold, begunPhase, begunOut, endPhase, endOut, stepTo, stepOut, runTo, runOut, finishKeys, finishOf, finishOut}
+use Rattle.p7_feed.specs.Run.{state, hold, begunPhase, begunOut, endPhase, endOut, stepTo, stepOut, runTo, runOut, finishKeys, finishOf, finishOut}
 
 -- ---- what the lines that are left print, by the phase
 unfoldable rest : Phase → List (List ℕ) → List ℕ

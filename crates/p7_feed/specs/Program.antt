@@ -1,6 +1,5 @@
 -- Document 01, "Examples to hold it to": what the program `wordline` prints for the whole of its input.
 use Prim.Native.Nat.{ℕ}
-use mathlib.Core.Bool.{Bool, true, false}
 use mathlib.Core.List.{List, [], _∷_, _++_}
 use lib.Dec.{eqb}
 use Rattle.p0_choice.specs.Choice.{pick}

@@ -1,6 +1,5 @@
 -- The run over bytes as they come: what is held of the line at hand, and what each byte prints.
 use Prim.Native.Nat.{ℕ, _+_, _*_}
-use mathlib.Core.Bool.{Bool, true, false}
 use mathlib.Core.List.{List, [], _∷_, _++_}
 use lib.Dec.{eqb, ltb}
 use lib.ListN.{length, take, set}

@@ -2,13 +2,12 @@
 use Prim.Native.Nat.{ℕ, _<_, _≤_}
 use mathlib.Core.Path.{_≡_, refl, sym, ap, _∙_}
 use mathlib.Core.Bool.{Bool, true, false}
-use mathlib.Core.List.{List, [], _∷_}
+use mathlib.Core.List.{List}
 use native.Mathlib.Omega.{arith}
 use lib.Dec.{ltb}
 use lib.ListN.{length, take}
 use lib.Seq.{take-all, length-take-le}
 use borrow.Author.Tests.{lt-ltb, ltb-true, ltb-false}
-use Rattle.p0_choice.specs.Choice.{pick}
 use Rattle.p2_input_method.specs.declared.InputMethod.{InputMethod}
 use Rattle.p0_refusals.specs.declared.Refusal.the-variants.{Long}
 use Rattle.p0_refusals.specs.Answers.{refuses}

@@ -1,13 +1,13 @@
 -- A line read as letters: 256 places always suffice, so that only what the bytes are refuses it.
-use Prim.Native.Nat.{ℕ, _+_, _<_, _≤_}
+use Prim.Native.Nat.{ℕ, _+_, _≤_}
 use mathlib.Core.Path.{_≡_, refl, sym, ap, _∙_}
 use mathlib.Core.Bool.{Bool, true, false}
-use mathlib.Core.List.{List, [], _∷_, _++_}
+use mathlib.Core.List.{List, [], _++_}
 use native.Mathlib.Omega.{arith}
 use lib.Dec.{ltb}
 use lib.ListN.{length, take, drop}
-use lib.Seq.{take-at, length-take-le}
-use borrow.Author.Tests.{le-ltb, ltb-true, ltb-false}
+use lib.Seq.{take-at}
+use borrow.Author.Tests.{le-ltb, ltb-false}
 use Rattle.p0_choice.specs.Choice.{pick}
 use Rattle.p0_refusals.specs.Answers.{Outcome, writes, refuses, content, answer, onto, output}
 use Rattle.p0_refusals.specs.declared.Answer.{Answer}
@@ -20,7 +20,7 @@ use Rattle.p5_utf8.proofs.Encode.{many-bytes}
 use Rattle.p5_utf8_read.specs.Read.{letters, reading}
 use Rattle.p5_utf8_read.proofs.Exact.{letters-exactly}
 use Rattle.p7_line.specs.declared.Begun.{Begun}
-use Rattle.p7_line.specs.declared.Begun.the-variants.{With, Refused as Not}
+use Rattle.p7_line.specs.declared.Begun.the-variants.{Refused as Not}
 use Rattle.p2_input_method.specs.declared.InputMethod.{InputMethod}
 use Rattle.p7_line.specs.Line.{typed, typedLine, refusedLine, keysLine, lineOut}
 use Rattle.p7_line.specs.Method.{methodNamed, methodOf}
@@ -63,9 +63,6 @@ module _ (s o : List ℕ) (g : Answer) (e : g ≡ answer (reading s) (length o))
           let v : out ≡ onto xs o = w ∙ rw (le-ltb (length o) (length xs) m) refl in
           (p ∙ ap writes (sym (rw v (take-at xs (drop (length xs) o) n (sym c)))), omega arith)
       go (refuses w) p h f = let z : _≡_ {A = ℕ} 0 1 = cc in absurd (omega arith)
-
-  pub read-fits : (n : ℕ) (out : List ℕ) → g ≡ Done n → out ≡ output (reading s) o → n ≤ 256
-  read-fits n out q f = read-whole n out q f .1
 
   pub read-done : (n : ℕ) (out : List ℕ) → g ≡ Done n → out ≡ output (reading s) o → reading s ≡ writes (take n out)
   read-done n out q f = read-whole n out q f .0

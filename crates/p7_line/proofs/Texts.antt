@@ -1,16 +1,15 @@
 -- A composed text of at most 32 letters: 96 bytes always suffice for it, and with its verdict it has at most 101.
-use Prim.Native.Nat.{ℕ, _+_, _*_, _<_, _≤_}
+use Prim.Native.Nat.{ℕ, _+_, _≤_}
 use mathlib.Core.Path.{_≡_, refl, sym, ap, _∙_}
-use mathlib.Core.Bool.{Bool, true, false}
+use mathlib.Core.Bool.{Bool, true}
 use mathlib.Core.List.{List, [], _∷_, _++_}
 use native.Mathlib.Omega.{arith}
-use lib.Dec.{ltb}
 use lib.ListN.{length, take, drop, length-append}
 use lib.Seq.{take-at}
 use borrow.Author.Tests.{le-ltb}
 use Rattle.p0_choice.specs.Choice.{pick}
 use Rattle.p0_choice.specs.Text.{word}
-use Rattle.p0_refusals.specs.Answers.{Outcome, writes, refuses, content, answer, onto, output}
+use Rattle.p0_refusals.specs.Answers.{writes, content, answer, onto, output}
 use Rattle.p0_refusals.specs.declared.Answer.{Answer}
 use Rattle.p0_refusals.specs.declared.Answer.the-variants.{Done, Refused}
 use Rattle.p0_refusals.specs.declared.Refusal.{Refusal}

@@ -2,28 +2,27 @@
 use Prim.Native.Nat.{ℕ, _+_, _<_, _≤_}
 use mathlib.Core.Path.{_≡_, refl, sym, ap, _∙_, subst}
 use mathlib.Core.Bool.{Bool, true, false}
-use mathlib.Core.List.{List, [], _∷_, _++_, map}
+use mathlib.Core.List.{List, [], _∷_}
 use native.Mathlib.Omega.{arith}
 use native.Mathlib.Numerals.{add-one}
 use lib.Dec.{ltb}
 use lib.ListN.{length, getD, take, drop, drop-of-length-le, length-map}
 use lib.Seq.{drop-cons, take-at}
 use borrow.Author.Tests.{lt-ltb, le-ltb, ltb-true, ltb-false}
-use Rattle.p0_choice.specs.Choice.{pick, each}
-use Rattle.p0_refusals.specs.Answers.{Outcome, writes, refuses, answer, content, onto, output}
+use Rattle.p0_choice.specs.Choice.{pick}
+use Rattle.p0_refusals.specs.Answers.{writes, refuses, answer, output}
 use Rattle.p0_refusals.proofs.Answers.{refuses-answer, writes-answer, writes-output}
 use Rattle.p0_refusals.specs.declared.Refusal.{Refusal}
-use Rattle.p0_refusals.specs.declared.Refusal.the-variants.{Full, Foreign, Unsound}
+use Rattle.p0_refusals.specs.declared.Refusal.the-variants.{Full}
 use Rattle.p1_letters.specs.Alphabet.{inAlphabet, allLetters}
 use Rattle.p2_input_method.specs.declared.InputMethod.{InputMethod}
-use Rattle.p3_cells.specs.Cells.{limit, isCell, isSound, used, holding}
+use Rattle.p3_cells.specs.Cells.{limit, isSound, used, holding}
 use Rattle.p3_cells.specs.Text.{shown, textOf}
 use Rattle.p3_cells.specs.Leaving.{changed}
 use Rattle.p3_cells.specs.declared.Cell.{Cell}
 use Rattle.p3_cells.specs.declared.Composition.{Composition}
 use Rattle.p3_cells.specs.declared.Mode.{Mode}
 use Rattle.p3_cells.specs.declared.Mode.the-variants.{Vietnamese}
-use Rattle.p0_refusals.specs.declared.Answer.{Answer}
 use Rattle.p0_refusals.specs.declared.Answer.the-variants.{Done, Refused}
 use Rattle.p3_calls.specs.Settings.{empty, created}
 use Rattle.p3_calls.proofs.Kept.{new-sound}
@@ -33,7 +32,7 @@ use Rattle.p3_key.specs.Process.{inMode, next, written, isFull, keyOutcome, key
 use Rattle.p3_cells.specs.declared.Changed.{Changed}
 use Rattle.p3_key.proofs.Kept.{key-length, key-sound}
 use Rattle.p5_utf8_write.proofs.Alphabet.{all-at}
-use Rattle.p7_line.specs.Line.{Typed, made, full, typed, typedLine, refusedLine, textLine}
+use Rattle.p7_line.specs.Line.{made, full, typed, typedLine, refusedLine, textLine}
 use Rattle.p3_cells.proofs.InAlphabet.{text-letters}
 
 -- ---- one key, on a sound Vietnamese composition with 32 places lent

@@ -1,6 +1,5 @@
 -- Document 01, "Examples to hold it to": what the program `wordline` prints for "one line of keys per fresh composition".
 use Prim.Native.Nat.{ℕ, _+_, _*_}
-use mathlib.Core.Bool.{Bool, true, false}
 use mathlib.Core.List.{List, [], _∷_, _++_}
 use lib.Dec.{ltb}
 use lib.ListN.{length}

@@ -1,7 +1,6 @@
 -- Document 01: "a method line"; "9: first line of the program is neither `telex` nor `vni`", and "9 follows" 8 and 1.
 use Prim.Native.Nat.{ℕ}
-use mathlib.Core.Bool.{Bool, true, false}
-use mathlib.Core.List.{List, [], _∷_}
+use mathlib.Core.List.{List}
 use Rattle.p0_choice.specs.Choice.{pick}
 use Rattle.p0_choice.specs.Text.{word}
 use Rattle.p0_refusals.specs.declared.Refusal.the-variants.{NoMethod}

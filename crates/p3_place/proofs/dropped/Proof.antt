@@ -1,4 +1,3 @@
-use mathlib.Core.Path.{refl}
 use borrow.Author.Needs.{needs}
 use Rattle.p3_place.proofs.Places.{below-at, below-before}
 use Rattle.p3_place.proofs.TonePlace.{kept-few, kept-other, kept-rest, kept-whole}

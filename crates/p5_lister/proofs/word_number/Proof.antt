@@ -1,6 +1,4 @@
 use borrow.Author.Needs.{needs}
-use lib.ListN.{length}
-use mathlib.Core.Path.{_≡_}
 use Rattle.p5_lister.proofs.Answers.{beyond, short, done}
 use Rattle.p5_lister.proofs.word_number.Statement.{statement}
 use Rattle.p5_lister.proofs.word_number.Tie as tie

@@ -1,7 +1,6 @@
 -- The composition stays sound, and what is left of the keys decides what the line prints.
 use borrow.Author.Needs.{needs}
-use mathlib.Core.Path.{_≡_, refl, sym, _∙_}
-use native.Mathlib.Omega.{arith}
+use mathlib.Core.Path.{_≡_, refl}
 use Prim.Native.Nat.{_≤_, _-_}
 use lib.ListN.{length}
 use Rattle.p7_line.proofs.Typing.{Typing, typing-first, typing-on, line-refused, line-typed, text-fits}
