@@ -3,3 +3,4 @@ pub mod Spell
 pub mod Copy
 pub mod Answers
 pub mod Meaning
+pub mod Room
