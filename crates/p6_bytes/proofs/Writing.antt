@@ -132,7 +132,7 @@ module _ (c : Composition) (tidy : c ≡ holding c (used c)) where
   unfolding used
   tidy-fits l = omega (arith, tidy-count, length-take (c .count) (c .cells))
 
-  -- p is the head, s4 what put_zeros leaves behind it
+  -- s4 is what stands once the head is written, b1 with the cells in use, b2 the whole
   pub encoded : (s s4 b1 b2 : List ℕ) (m o : ℕ) → length s ≡ size → length (c .cells) ≡ limit → m ≡ methodByte (c .method) → o ≡ modeByte (c .mode)
       → s4 ≡ take known (set (set (set s 0 m) 1 o) 2 (c .count)) ++ (zeros (head - known) ++ drop head (set (set (set s 0 m) 1 o) 2 (c .count)))
       → b1 ≡ (take head s4 ++ cellsBytes (used c)) ++ drop (start (c .count)) s4 → length b1 ≡ size
