@@ -32,12 +32,12 @@ listed-many = (nth listing, numbering)
 
 -- ---- word_number: the word is the first len letters of l
 module _ (n : ℕ) (o : List ℕ) where
-  pub beyond : 5963 ≤ n → Answers (NumberMeans Listed n) o (Refused NoWord) o
-  beyond h = (
+  pub beyond : 5963 ≤ n → (r : Answer) (out : List ℕ) → r ≡ Refused NoWord → out ≡ o → Answers (NumberMeans Listed n) o r out
+  beyond h r out e f = (
     refuses NoWord,
     none (record { total = 5963; many = (nth listing, numbering); past = h }) refl,
-    refuses-answer _ _ refl (length o),
-    refuses-output _ _ refl o,
+    e ∙ refuses-answer _ _ refl (length o),
+    f ∙ refuses-output _ _ refl o,
   )
 
   module _ (len : ℕ) (l : List ℕ) (h : n < 5963) (is : take len l ≡ nth listing n) (eight : length l ≡ 8) (small : len ≤ 8) where
@@ -47,33 +47,46 @@ module _ (n : ℕ) (o : List ℕ) where
     long-as : length (nth listing n) ≡ len
     long-as = ap length (sym is) ∙ length-take-le len l (omega arith)
 
-    pub short : length o < len → Answers (NumberMeans Listed n) o (Refused Short) o
-    short s = (writes (nth listing n), is-word, short-answer _ _ refl (length o) (rw long-as s), short-output _ _ refl o (rw long-as s))
-
-    pub done : (out : List ℕ) → len ≤ length o → out ≡ take len l ++ drop len o → Answers (NumberMeans Listed n) o (Done len) out
-    done out s e = (
+    pub short : length o < len → (r : Answer) (out : List ℕ) → r ≡ Refused Short → out ≡ o → Answers (NumberMeans Listed n) o r out
+    short s r out e f = (
       writes (nth listing n),
       is-word,
-      writes-answer _ _ refl (length o) len (rw long-as s) (sym long-as),
+      e ∙ short-answer _ _ refl (length o) (rw long-as s),
+      f ∙ short-output _ _ refl o (rw long-as s),
+    )
+
+    pub done : len ≤ length o → (r : Answer) (out : List ℕ) → r ≡ Done len → out ≡ take len l ++ drop len o
+        → Answers (NumberMeans Listed n) o r out
+    done s r out d e = (
+      writes (nth listing n),
+      is-word,
+      d ∙ writes-answer _ _ refl (length o) len (rw long-as s) (sym long-as),
       writes-output _ _ refl o out (rw long-as s) (rw (long-as, ← is) e),
     )
 
 -- ---- next_word: the number of the word that follows is how many are at most w
-number-next : {P : Word → Type 0} {t : Trie} (l : Tries.Lists P t) (w : Word) (u : Outcome) → Permitted w → NumberMeans P (upTo t w) u → NextMeans P w u
+number-next : {P : Word → Type 0} {t : Trie} (l : Tries.Lists P t) (w : Word) (u : Outcome) → Permitted w
+    → NumberMeans P (upTo t w) u → NextMeans P w u
 number-next {t = t} l w u p (word r q e) =
     let h : upTo t w < size t = omega (arith, q .small, one-total (q .numbers) (Tries.numbering l)) in
     let s : nth t (upTo t w) ≡ r = one-numbering (Tries.numbering l) (q .numbers) (upTo t w) h ∙ q .is in
-    next r p (rw s at (Tries.follows l w h)) e
+    next r p (rw s at (Tries.follows l w h)) (rw e)
 number-next {t = t} l w u p (none q e) =
     last p (Tries.last l w (omega (arith, q .past, one-total (q .many .1) (Tries.numbering l)))) e
 
 module _ (w : Word) (o : List ℕ) where
-  pub too-long : 64 < length w → Answers (NextMeans Listed w) o (Refused Long) o
-  too-long h = (refuses Long, long h refl, refuses-answer _ _ refl (length o), refuses-output _ _ refl o)
+  pub too-long : 64 < length w → (r : Answer) (out : List ℕ) → r ≡ Refused Long → out ≡ o → Answers (NextMeans Listed w) o r out
+  too-long h r out e f = (refuses Long, long h refl, e ∙ refuses-answer _ _ refl (length o), f ∙ refuses-output _ _ refl o)
 
   module _ (b : Bool) (l : length w ≤ 64) (e : b ≡ allLetters w) where
-    pub not-letters : b ≡ false → Answers (NextMeans Listed w) o (Refused Foreign) o
-    not-letters f = (refuses Foreign, foreign l (sym e ∙ f) refl, refuses-answer _ _ refl (length o), refuses-output _ _ refl o)
+    pub not-letters : b ≡ false → (r : Answer) (out : List ℕ) → r ≡ Refused Foreign → out ≡ o → Answers (NextMeans Listed w) o r out
+    not-letters n r out d f = (
+      refuses Foreign,
+      foreign (omega arith) (sym e ∙ n) refl,
+      d ∙ refuses-answer _ _ refl (length o),
+      f ∙ refuses-output _ _ refl o,
+    )
 
-    pub follows : b ≡ true → (n : ℕ) (r : Answer) (out : List ℕ) → n ≡ upTo listing w → Answers (NumberMeans Listed n) o r out → Answers (NextMeans Listed w) o r out
+    pub follows : b ≡ true → (n : ℕ) (r : Answer) (out : List ℕ) → n ≡ upTo listing w
+        → Answers (NumberMeans Listed n) o r out → Answers (NextMeans Listed w) o r out
     follows f n r out u a = (a .0, number-next lists w (a .0) (l, sym e ∙ f) (rw u at (a .1)), a .2, a .3)

@@ -58,7 +58,8 @@ pub in-order : (m n : ℕ) (u v : Word) → m < n → NumberMeans Listed m (writ
 in-order m n u v l a b = names-ascend m n u v (given m u a) (given n v b) l
 
 -- "with no other word between"
-pub none-between : (n : ℕ) (u v x : Word) → NumberMeans Listed n (writes u) → NumberMeans Listed (suc n) (writes v) → Listed x → Before u x → Before x v → ⊥
+pub none-between : (n : ℕ) (u v x : Word) → NumberMeans Listed n (writes u) → NumberMeans Listed (suc n) (writes v)
+    → Listed x → Before u x → Before x v → ⊥
 none-between n u v x a b = no-name-between n (suc n) u v (given n u a) (given (suc n) v b) refl x
 
 -- ---- the next word

@@ -61,7 +61,8 @@ unfolding quickBare beforeVowel vowelRun
 before-bare [] t = refl
 before-bare (x ∷ u) t = go (quickAmong x vowels) (isSpellingVowel x) (quick-vowel x (t .0)) refl (before-bare u (t .1))
   where
-    go : (a b : Bool) → a ≡ b → isSpellingVowel x ≡ b → quickBare vowels u ≡ isEmpty (take (vowelRun (drop (beforeVowel u) u)) (drop (beforeVowel u) u))
+    go : (a b : Bool) → a ≡ b → isSpellingVowel x ≡ b
+        → quickBare vowels u ≡ isEmpty (take (vowelRun (drop (beforeVowel u) u)) (drop (beforeVowel u) u))
         → _≡_ {A = Bool} (elim a [ true ↦ false | false ↦ quickBare vowels u ])
         (isEmpty (take (vowelRun (drop (pick b 0 (suc (beforeVowel u))) (x ∷ u))) (drop (pick b 0 (suc (beforeVowel u))) (x ∷ u))))
     go true true e s h = rw (vowelRun, s)
@@ -113,7 +114,8 @@ kinds-before : (u : Word) → Toneless u → onsetEnd u ≡ beforeVowel u → Ki
 unfolding isBareOnset isWithoutOnset vowelsOf onsetOf
 kinds-before u t e = record { bare-is = before-bare u t ∙ rw e; without-is = before-without u t ∙ rw e }
 
-kinds-glued : (x y z : ℕ) (u : Word) → Toneless (x ∷ y ∷ z ∷ u) → T (isGlue x y) → isSpellingVowel z ≡ true → onsetEnd (x ∷ y ∷ z ∷ u) ≡ 2 → Kinds (x ∷ y ∷ z ∷ u)
+kinds-glued : (x y z : ℕ) (u : Word) → Toneless (x ∷ y ∷ z ∷ u) → T (isGlue x y) → isSpellingVowel z ≡ true
+    → onsetEnd (x ∷ y ∷ z ∷ u) ≡ 2 → Kinds (x ∷ y ∷ z ∷ u)
 unfolding isBareOnset isWithoutOnset vowelsOf onsetOf vowelRun quickWithout
 kinds-glued x y z u t g v e = record {
   bare-is = glued-bare x y z u (quick-vowel z (t .1 .1 .0) ∙ v) ∙ rw (e, v);
@@ -161,17 +163,26 @@ longest-held : T (holds listing longest)
 unfolding longest holds listing trieAt grow letters stops downs nexts word
 longest-held = tt
 
+eight-letters : length longest ≡ 8
+unfolding longest word
+eight-letters = refl
+
 none-longer : (u : Word) → Listed u → length u ≤ 8
 none-longer u l =
     ⊎-elim (λ h. absurd (let t : T (verdict u) = l .accepted in rw (← too-long u h) at t)) (λ h. h) (below-or-not 8 (length u))
 
 -- "5,963 toneless words pass: 25 bare onsets, 217 without onset, 5,721 with onset and vowels"; "The longest has 8 letters."
 pub counts : Counts
-unfolding how-many longest word
+unfolding how-many
 counts = record {
   all = (nth listing, numbering);
-  bare = many (λ u. quickBare vowels u) isBareOnset 25 (λ u t. kinds u t .bare-is) bare;
-  without = many (λ u. quickWithout vowels u) isWithoutOnset 217 (λ u t. kinds u t .without-is) without;
-  both = many (λ u. quickBoth vowels u) hasBoth 5721 both-is both;
-  longest = record { within = none-longer; word = longest; has = lists .only longest longest-held; reaches = refl };
+  bare = many (λ u. quickBare vowels u) isBareOnset _ (λ u t. kinds u t .bare-is) (omega (arith, bare));
+  without = many (λ u. quickWithout vowels u) isWithoutOnset _ (λ u t. kinds u t .without-is) (omega (arith, without));
+  both = many (λ u. quickBoth vowels u) hasBoth _ both-is (omega (arith, both));
+  longest = record {
+    within = λ u l. omega (arith, none-longer u l);
+    word = longest;
+    has = lists .only longest longest-held;
+    reaches = omega (arith, eight-letters);
+  };
 }

@@ -21,7 +21,8 @@ onsetGoes v o = pick (listedIfAny onsetRows o) (pick (listed vowelRows v) (onset
 codaGoes : Word → Word → Bool
 codaGoes v c = pick (listedIfAny codaRows c) (codaFits (rowsOf vowelRows v) c) false
 
-apart : (a l k f g : Bool) → pick a (pick l (pick k (pick f g false) false) false) false ≡ pick (pick a (pick l f false) false) (pick k g false) false
+apart : (a l k f g : Bool)
+    → pick a (pick l (pick k (pick f g false) false) false) false ≡ pick (pick a (pick l f false) false) (pick k g false) false
 apart true true true f g = refl
 apart true true false true g = refl
 apart true true false false g = refl
@@ -31,10 +32,12 @@ apart false l k f g = refl
 goes : (o v c : Word) → partsFit o v c ≡ pick (onsetGoes v o) (codaGoes v c) false
 unfolding partsFit onsetGoes codaGoes
 goes o v c =
-    apart (listedIfAny onsetRows o) (listed vowelRows v) (listedIfAny codaRows c) (onsetFits o (rowsOf vowelRows v)) (codaFits (rowsOf vowelRows v) c)
+    apart (listedIfAny onsetRows o) (listed vowelRows v) (listedIfAny codaRows c)
+    (onsetFits o (rowsOf vowelRows v)) (codaFits (rowsOf vowelRows v) c)
 
 module _ (v : Word) where
-  with-onset : (b : Bool) (o : Word) (cs : List Word) → onsetGoes v o ≡ b → howMany (λ c. partsFit o v c) cs ≡ pick b (howMany (codaGoes v) cs) 0
+  with-onset : (b : Bool) (o : Word) (cs : List Word) → onsetGoes v o ≡ b
+      → howMany (λ c. partsFit o v c) cs ≡ pick b (howMany (codaGoes v) cs) 0
   unfolding howMany
   with-onset true o [] e = refl
   with-onset false o [] e = refl

@@ -1,20 +1,25 @@
 use borrow.Author.Needs.{needs}
+use mathlib.Core.Path.{refl}
 use Rattle.p5_lister.proofs.Answers.{beyond, short, done}
 use Rattle.p5_lister.proofs.word_number.Statement.{statement}
 use Rattle.p5_lister.proofs.word_number.Tie as tie
 
+ruleset answers = (needs, refl)
+
 returns : tie.Need-returns
-returns c = beyond _ _ (c .if1 .taken)
+returns c = beyond (c .before .before .args .n) _ (search answers) _ _ (search answers) (search answers)
 
 returns-2 : tie.Need-returns-2
 returns-2 c =
     let w : tie.After-word-at = c .before .before in
-    short _ _ _ _ (w .before .if1 .left) (w .word-at .ensures .1) (search needs) (w .word-at .ensures .0) (c .if2 .taken)
+    short _ _ (w .word-at .result .len) (w .word-at .result .letters) (search answers) (search answers) (search answers) (search answers)
+    (search answers) _ _ (search answers) (search answers)
 
 returns-3 : tie.Need-returns-3
 returns-3 c =
     let w : tie.After-word-at = c .before .before .before .before .before .before in
-    done _ _ _ _ (w .before .if1 .left) (w .word-at .ensures .1) (search needs) (w .word-at .ensures .0) _ (c .before .before .before .before .if2 .left) (c .before .before .put .ensures)
+    done _ _ (w .word-at .result .len) (w .word-at .result .letters) (search answers) (search answers) (search answers) (search answers)
+    (search answers) _ _ (search answers) (search answers)
 
 pub word-number-spec : {M : Type 1} → statement M
 word-number-spec =
