@@ -151,7 +151,7 @@ impl Composer<'_> {
     }
 
     fn size(&mut self) {
-        self.run.begin("composition_bytes: three bytes, and eight for each of 32 cells");
+        self.run.begin("composition_bytes: a head of eight bytes, and eight for each of 32 cells");
         let ours = unsafe { host::pasdrongel_composition_bytes() };
         self.run.compare("composition_bytes", ours, SIZE, Vec::new, String::new);
     }
