@@ -527,7 +527,7 @@ static void remember(uint32_t key)
 static void some_state(struct given *g, uint32_t rarity)
 {
     static const uint8_t edges[] = {0, 1, 2, 31, 32, 33, 'a', 'f', 'z', 0x80, 0xff};
-    uint32_t in_use = HEAD + 8 * composition[2];
+    uint32_t in_use = HEAD + 8 * composition[2], place;
     memset(g->state, 0, sizeof g->state);
     memcpy(g->state, composition, STATE);
     g->state_size = STATE;
@@ -535,9 +535,12 @@ static void some_state(struct given *g, uint32_t rarity)
         g->state_size = 0;
     else if (one_in(3 * rarity))
         g->state_size = one_in(2) ? STATE - 1 + 2 * below(2) : below(MOST_STATE + 1);
-    if (one_in(rarity))
-        g->state[one_in(3) ? below(one_in(4) ? HEAD : 3) : below(one_in(4) ? STATE : in_use)] =
-            one_in(2) ? edges[below(sizeof edges)] : (uint8_t)below(256);
+    if (one_in(rarity)) {
+        place = one_in(3) ? below(one_in(4) ? HEAD : 3) : below(one_in(4) ? STATE : in_use);
+        g->state[place] = one_in(2) ? edges[below(sizeof edges)] : (uint8_t)below(256);
+        if (place == 2 && one_in(2))
+            g->state[place] = (uint8_t)(31 + below(3)); /* the count, at its own edge */
+    }
 }
 
 /* What a host gives to undo: the keys of the session, and after them those of a cell that has a tone or a mark, of which
