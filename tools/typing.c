@@ -33,12 +33,17 @@ static size_t given_length, text_length;
 /* Of a word that is searched: its letters without tone, and the letters that a mark makes them of, or 0. */
 static uint32_t plain[PASDRONGEL_READ_ROOM], roots[PASDRONGEL_READ_ROOM];
 
+static int done(uint32_t answer)
+{
+    return PASDRONGEL_REFUSAL(answer) == PASDRONGEL_DONE;
+}
+
 static void say(const uint32_t *letters, size_t length)
 {
     uint8_t bytes[3]; /* no letter takes more */
     size_t i, count;
     for (i = 0; i < length; i++)
-        if (pasdrongel_write_utf8(letters + i, 1, bytes, sizeof bytes, &count) == PASDRONGEL_DONE)
+        if (done(pasdrongel_write_utf8(letters + i, 1, bytes, sizeof bytes, &count)))
             fwrite(bytes, 1, count, stdout);
 }
 
@@ -52,33 +57,33 @@ static uint32_t press(uint8_t *state, uint32_t key)
 /* A key on a panel with undo. `raw` are the keys so far, without those that were removed. */
 static uint32_t press_undoing(uint8_t *state, uint32_t key, uint32_t *raw, size_t *count)
 {
-    uint32_t behaviour, refusal;
+    uint32_t behaviour, answer;
     if (key == REMOVE) {
         *count -= *count > 0;
         return press(state, key);
     }
-    refusal = pasdrongel_undo(state, PASDRONGEL_COMPOSITION_BYTES, key, raw, *count, &behaviour);
+    answer = pasdrongel_undo(state, PASDRONGEL_COMPOSITION_BYTES, key, raw, *count, &behaviour);
     raw[(*count)++] = key;
-    if (refusal == PASDRONGEL_REFUSED_NO_UNDO)
+    if (PASDRONGEL_REFUSAL(answer) == PASDRONGEL_REFUSED_NO_UNDO)
         return press(state, key);
-    if (refusal == PASDRONGEL_DONE && behaviour == PASDRONGEL_APPEND)
-        refusal = pasdrongel_literal(state, PASDRONGEL_COMPOSITION_BYTES, key);
-    if (refusal == PASDRONGEL_DONE)
-        refusal = pasdrongel_text(state, PASDRONGEL_COMPOSITION_BYTES, text, PASDRONGEL_TEXT_ROOM, &text_length);
-    return refusal;
+    if (done(answer) && behaviour == PASDRONGEL_APPEND)
+        answer = pasdrongel_literal(state, PASDRONGEL_COMPOSITION_BYTES, key);
+    if (done(answer))
+        answer = pasdrongel_text(state, PASDRONGEL_COMPOSITION_BYTES, text, PASDRONGEL_TEXT_ROOM, &text_length);
+    return answer;
 }
 
 static uint32_t type(uint32_t method, int undoing)
 {
     uint8_t state[PASDRONGEL_COMPOSITION_BYTES];
-    uint32_t raw[PASDRONGEL_READ_ROOM], refusal = pasdrongel_new(state, sizeof state, method);
+    uint32_t raw[PASDRONGEL_READ_ROOM], answer = pasdrongel_new(state, sizeof state, method);
     size_t i, count = 0;
     text_length = 0;
-    for (i = 0; refusal == PASDRONGEL_DONE && i < given_length; i++)
-        refusal = undoing ? press_undoing(state, given[i], raw, &count) : press(state, given[i]);
-    if (refusal == PASDRONGEL_DONE)
+    for (i = 0; done(answer) && i < given_length; i++)
+        answer = undoing ? press_undoing(state, given[i], raw, &count) : press(state, given[i]);
+    if (done(answer))
         say(text, text_length);
-    return refusal;
+    return answer;
 }
 
 static void find_roots(uint32_t method)
@@ -90,7 +95,7 @@ static void find_roots(uint32_t method)
         pasdrongel_tone_off(given[i], &plain[i]);
         for (letter = 'a'; letter <= 'z'; letter++)
             for (key = 0; key < 128; key++)
-                if (pasdrongel_mark_for(method, letter, key, &mark) == PASDRONGEL_DONE && mark == plain[i])
+                if (done(pasdrongel_mark_for(method, letter, key, &mark)) && mark == plain[i])
                     roots[i] = letter;
     }
 }
@@ -142,9 +147,9 @@ static void say_keys(uint32_t last)
 static uint32_t search(uint32_t method)
 {
     uint8_t state[PASDRONGEL_COMPOSITION_BYTES];
-    uint32_t refusal = pasdrongel_new(state, sizeof state, method), key, at;
-    if (refusal != PASDRONGEL_DONE || given_length == 0)
-        return refusal;
+    uint32_t answer = pasdrongel_new(state, sizeof state, method), key, at;
+    if (!done(answer) || given_length == 0)
+        return answer;
     find_roots(method);
     memset(places, 0, sizeof places);
     all_count = 0;
@@ -154,7 +159,7 @@ static uint32_t search(uint32_t method)
             if (key == REMOVE || (key >= 'A' && key <= 'Z'))
                 continue;
             memcpy(state, all[at].state, sizeof state);
-            if (press(state, key) != PASDRONGEL_DONE || !may_lead() || !is_new(state, key, at))
+            if (!done(press(state, key)) || !may_lead() || !is_new(state, key, at))
                 continue;
             if (text_length == given_length && memcmp(text, given, given_length * sizeof *given) == 0) {
                 say_keys(all_count - 1);
@@ -171,10 +176,10 @@ static uint32_t search(uint32_t method)
 
 static uint32_t verdict(void)
 {
-    uint32_t yes, refusal = pasdrongel_verdict(given, given_length, &yes);
-    if (refusal == PASDRONGEL_DONE)
+    uint32_t yes, answer = pasdrongel_verdict(given, given_length, &yes);
+    if (done(answer))
         fputs(yes ? "yes" : "no", stdout);
-    return refusal;
+    return answer;
 }
 
 static int read_line(char *line, size_t *length)
@@ -196,10 +201,10 @@ static int next_is(const char *name, const char *line, size_t length, size_t *at
     return 1;
 }
 
-static uint32_t answer(const char *line, size_t length)
+static uint32_t answered(const char *line, size_t length)
 {
     static const char *const asked[] = {"verdict", "keys", "undoing", "reach"};
-    uint32_t method, refusal;
+    uint32_t method, answer;
     size_t what, at = 0;
     for (what = 0; what < 4 && !next_is(asked[what], line, length, &at); what++)
         ;
@@ -208,10 +213,10 @@ static uint32_t answer(const char *line, size_t length)
         fprintf(stderr, "tools/typing.c: a line asks for what it does not know\n");
         exit(2);
     }
-    refusal = pasdrongel_read_utf8(
+    answer = pasdrongel_read_utf8(
         (const uint8_t *)line + at, length - at, given, PASDRONGEL_READ_ROOM, &given_length);
-    if (refusal != PASDRONGEL_DONE)
-        return refusal;
+    if (!done(answer))
+        return answer;
     return what == 0 ? verdict() : what == 3 ? search(method) : type(method, what == 2);
 }
 
@@ -219,12 +224,12 @@ int main(void)
 {
     char line[LINE];
     size_t length;
-    uint32_t refusal;
+    uint32_t answer;
     setvbuf(stdout, NULL, _IOLBF, BUFSIZ); /* who asks waits for the answer */
     while (read_line(line, &length)) {
-        refusal = answer(line, length);
-        if (refusal != PASDRONGEL_DONE)
-            printf("refused %lu", (unsigned long)refusal);
+        answer = answered(line, length);
+        if (!done(answer))
+            printf("refused %lu", (unsigned long)PASDRONGEL_REFUSAL(answer));
         putchar('\n');
     }
     return 0;

@@ -1,5 +1,5 @@
 -- How the code holds the step of a key: the place of a cell, what comes there, and how many cells there are then. That
--- these numbers are document 01's step, keyCells, is proved (proofs/Key).
+-- these numbers are document 01's step, keyCells, is proved (proofs/Makes).
 use Prim.Native.Nat.{ℕ, _+_, _%_}
 use mathlib.Core.List.{List}
 use lib.ListN.{length}
