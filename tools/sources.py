@@ -24,10 +24,11 @@ def crates(root=ROOT):
 
 
 class Function:
-    def __init__(self, crate, match, signature, requires, ensures):
+    def __init__(self, crate, match, signature, requires, ensures, program):
         self.crate = crate
         self.name = match["name"]
         self.public = bool(match["pub"])
+        self.promised = self.public or program and bool(requires or ensures)
         self.exported = bool(match["ext"])
         self.result = "->" in signature
         self.lent = re.findall(r"(\w+): &(?:'\w+ )?mut ", signature)
@@ -64,7 +65,7 @@ def functions(crate, root=ROOT):
         for match in FN.finditer(text):
             signature = SIGNATURE.match(text, match.end())
             said = clauses(text, signature.end())
-            found.append(Function(crate, match, signature[0], said["requires"], said["ensures"]))
+            found.append(Function(crate, match, signature[0], said["requires"], said["ensures"], path.name == "main.rt"))
     return found
 
 

@@ -85,8 +85,8 @@ module _ (input : Input) where
   amount-failed e = rw e refl
 
 -- ---- a turn: what is handed on is what the read left
-pub part-fits : (k n : ℕ) (part p : List ℕ) → p ≡ take k part → length part ≡ n → length p ≤ n
-part-fits k n part p e l = rw (e, length-take) (omega arith)
+pub part-fits : (input : Input) (k m n : ℕ) (part p : List ℕ) → k ≡ amount input → length part ≡ m → p ≡ take k part → m ≡ n → length p ≤ n
+part-fits input k m n part p a l e h = rw (e, length-take) (omega arith)
 
 module _ (input : Input) (k : ℕ) (part p : List ℕ) (e : k ≡ amount input) (q : p ≡ take k part) where
   given : p ≡ bytesOf input part

@@ -1,16 +1,12 @@
 use borrow.Author.Needs.{needs}
-use Rattle.p7_feed.specs.Run.{partMost}
 use Rattle.p7_wordline.proofs.Turns.{part-fits, held-given, laid-given, printed-given}
 use Rattle.p7_wordline.proofs.turn.Statement.{statement}
 use Rattle.p7_wordline.proofs.turn.Tie as tie
 
-ruleset answers = (needs, held-given, laid-given, printed-given)
+ruleset answers = (needs, part-fits, held-given, laid-given, printed-given)
 
 feed-requires : tie.Need-feed-requires
-feed-requires c κs =
-    let amounts = c .before .before .before .before in
-    let read = amounts .before .before .before .before .before .before .read in
-    (part-fits (amounts .amount .result) partMost (read .last .1 .0) _ (c .before .before .first-bytes .ensures) (search needs), search needs, search needs, search needs)
+feed-requires c κs = (search answers, search answers, search answers, search answers)
 
 returns : tie.Need-returns
 returns c = ((search answers, search answers, search answers), search answers)
