@@ -3,3 +3,4 @@ pub mod Tables
 pub mod Arms
 pub mod Tests
 pub mod Numbers
+pub mod Only
