@@ -82,8 +82,3 @@ module _ (u : Outcome) (v : Answer) (e : v ≡ counted u) where
 
 -- every way out of a call but what it lends to the function that writes, and what that leaves
 pub ruleset call = (call-refused, kept-refused, call-short, kept-short, call-done)
-
--- ---- no second answer fits, and no second output
-pub one-answer : (u : Outcome) (o : List ℕ) (r r' : Answer) (out out' : List ℕ)
-    → r ≡ answer u (length o) → out ≡ output u o → r' ≡ answer u (length o) → out' ≡ output u o → (r ≡ r') × (out ≡ out')
-one-answer u o r r' out out' e f e' f' = (cc, cc)

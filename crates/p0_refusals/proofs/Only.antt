@@ -1,13 +1,10 @@
--- No second answer fits the contract of a public function.
+-- No second answer fits a public function's contract.
 use mathlib.Core.Path.{refl}
 use Rattle.p0_choice.proofs.Only.{OneAnswer, same}
-use Rattle.p0_refusals.proofs.number.Kinds as number-kinds
-use Rattle.p0_refusals.proofs.number.Reads as number
-use Rattle.p0_refusals.proofs.refusal_of.Kinds as refusal-kinds
-use Rattle.p0_refusals.proofs.refusal_of.Reads as refusal
+use Rattle.p0_refusals.proofs as own
 
-pub number-only : OneAnswer number-kinds.ps number-kinds.r number.Asked number.Learnt
+pub number-only : OneAnswer own.number.Kinds.ps own.number.Kinds.r own.number.Reads.Asked own.number.Reads.Learnt
 number-only κs a = (tt, λ z z′ w w′ q q′. (same q q′, refl))
 
-pub refusal-of-only : OneAnswer refusal-kinds.ps refusal-kinds.r refusal.Asked refusal.Learnt
+pub refusal-of-only : OneAnswer own.refusal_of.Kinds.ps own.refusal_of.Kinds.r own.refusal_of.Reads.Asked own.refusal_of.Reads.Learnt
 refusal-of-only κs a = (tt, λ z z′ w w′ q q′. (same q q′, refl))

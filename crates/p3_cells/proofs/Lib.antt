@@ -5,3 +5,4 @@ pub mod SoundTest
 pub mod Text
 pub mod Leaving
 pub mod InAlphabet
+pub mod Only

@@ -3,3 +3,4 @@ pub mod Uo
 pub mod Ua
 pub mod Mark
 pub mod Nearest
+pub mod Only

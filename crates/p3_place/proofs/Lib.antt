@@ -7,3 +7,4 @@ pub mod TonePlace
 pub mod Same
 pub mod Bound
 pub mod Placed
+pub mod Only

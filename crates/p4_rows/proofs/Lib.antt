@@ -4,3 +4,4 @@ pub mod Keys
 pub mod Matrices
 pub mod Pairs
 pub mod Spread
+pub mod Only

@@ -4,3 +4,4 @@ pub mod FirstByte
 pub mod Surveying
 pub mod Spreading
 pub mod Reading
+pub mod Only

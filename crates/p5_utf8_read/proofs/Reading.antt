@@ -12,11 +12,9 @@ use Rattle.p0_choice.specs.Choice.{pick}
 use Rattle.p0_refusals.specs.declared.Refusal.the-variants.{Short, Long}
 use Rattle.p1_letters.specs.Alphabet.{inAlphabet, allLetters}
 use Rattle.p5_utf8.specs.declared.Char.the-variants.{Malformed as NoChar}
-use Rattle.p0_refusals.specs.declared.Answer.{Answer}
 use Rattle.p0_refusals.specs.declared.Answer.the-variants.{Done, Refused}
 use Rattle.p5_utf8.specs.Rfc3629.{isScalar, encode, encodeAll, charOf}
-use Rattle.p0_refusals.specs.Answers.{writes, refuses, refusalOf, answer, output}
-use Rattle.p0_refusals.proofs.Answers.{one-answer}
+use Rattle.p0_refusals.specs.Answers.{writes, refuses, refusalOf, answer}
 use Rattle.p0_refusals.proofs.Room.{Fits, enough}
 use Rattle.p5_utf8_write.specs.Write.{letterLimit, writing}
 use Rattle.p5_utf8_write.proofs.Alphabet.{few-bytes}
@@ -59,12 +57,6 @@ reading-fits s = go (ltb byteLimit (length s)) refl
 
 pub read-room : (s : List ℕ) (n : ℕ) → 256 ≤ n → answer (reading s) n ≡ Refused Short → ⊥
 read-room s n h = enough (reading s) 256 n (reading-fits s) h
-
--- ---- whatever meets the contract of `read` is its answer and its output
-pub no-second-answer : (s o : List ℕ) (r r' : Answer) (out out' : List ℕ)
-    → r ≡ answer (reading s) (length o) → out ≡ output (reading s) o → r' ≡ answer (reading s) (length o) → out' ≡ output (reading s) o
-    → (r ≡ r') × (out ≡ out')
-no-second-answer s o = one-answer (reading s) o
 
 -- ---- reading and writing
 -- bytes are read exactly as the letters whose encoding they are, however many, if they are at most 256

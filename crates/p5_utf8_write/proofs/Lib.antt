@@ -2,3 +2,4 @@ pub mod Alphabet
 pub mod Measuring
 pub mod Laying
 pub mod Writing
+pub mod Only

@@ -14,7 +14,7 @@ use Rattle.p5_utf8.specs.Rfc3629.{encodeAll}
 use Rattle.p0_refusals.specs.Answers.{writes, refuses, refusalOf, content, counted, answer, onto, output}
 use Rattle.p0_refusals.specs.declared.Answer.{Answer}
 use Rattle.p0_refusals.specs.declared.Answer.the-variants.{Done, Refused}
-use Rattle.p0_refusals.proofs.Answers.{counts, output-done, one-answer}
+use Rattle.p0_refusals.proofs.Answers.{counts, output-done}
 use Rattle.p0_refusals.proofs.Room.{Fits, enough}
 use Rattle.p5_utf8_write.specs.Write.{letterLimit, writing}
 use Rattle.p5_utf8_write.proofs.Alphabet.{few-bytes}
@@ -75,9 +75,3 @@ writing-fits xs = go (ltb letterLimit (length xs)) (allLetters xs) refl refl
 -- so with 192 bytes of room 3 is never the answer
 pub write-room : (xs : List ℕ) (n : ℕ) → 192 ≤ n → answer (writing xs) n ≡ Refused Short → ⊥
 write-room xs n h = enough (writing xs) 192 n (writing-fits xs) h
-
--- ---- whatever meets the contract of `write` is its answer and its output
-pub no-second-answer : (xs o : List ℕ) (r r' : Answer) (out out' : List ℕ)
-    → r ≡ answer (writing xs) (length o) → out ≡ output (writing xs) o → r' ≡ answer (writing xs) (length o) → out' ≡ output (writing xs) o
-    → (r ≡ r') × (out ≡ out')
-no-second-answer xs o = one-answer (writing xs) o
