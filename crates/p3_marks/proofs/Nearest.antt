@@ -1,6 +1,7 @@
 -- The places of uo, ua and mark in document 01's words: a place is found exactly where it is within reach, fits, and nothing
 -- nearer to the end fits.
 use Prim.Native.Nat.{ℕ, zero, suc, _+_, _-_, _<_, _≤_}
+use Prim.Native.Char.{code}
 use mathlib.Core.Path.{_≡_, refl, sym, ap}
 use mathlib.Core.Bool.{Bool, true, false}
 use mathlib.Core.List.{List}
@@ -83,8 +84,8 @@ module _ (m : InputMethod) (cs : List Cell) (k : ℕ) where
 pub record UoAt (cs : List Cell) (n i j : ℕ) : Type 0 where
   pub below : suc j < i
   pub reach : i ≤ suc j + n
-  pub u : baseAt cs j ≡ 117
-  pub o : baseAt cs (suc j) ≡ 111
+  pub u : baseAt cs j ≡ code "u"
+  pub o : baseAt cs (suc j) ≡ code "o"
   pub between : (p : ℕ) → suc j < p → p < i → isVowel (baseAt cs p) ≡ false
 
 -- an o is a vowel
@@ -156,9 +157,9 @@ module _ (cs : List Cell) where
 -- ---- *ua.* The last two bases are u and a, the u at place j, and no q stands before.
 pub record UaAt (cs : List Cell) (j : ℕ) : Type 0 where
   pub last : length cs ≡ suc (suc j)
-  pub u : baseAt cs j ≡ 117
-  pub a : baseAt cs (suc j) ≡ 97
-  pub noQ : (i : ℕ) → j ≡ suc i → baseAt cs i ≡ 113 → ⊥
+  pub u : baseAt cs j ≡ code "u"
+  pub a : baseAt cs (suc j) ≡ code "a"
+  pub noQ : (i : ℕ) → j ≡ suc i → baseAt cs i ≡ code "q" → ⊥
 
 after-no : (cs : List Cell) (j : ℕ) → afterQ cs j ≡ false → (i : ℕ) → j ≡ suc i → baseAt cs i ≡ 113 → ⊥
 unfolding afterQ

@@ -1,6 +1,7 @@
 -- How the code holds the step of a key: the place of a cell, what comes there, and how many cells there are then. That
 -- these numbers are document 01's step, keyCells, is proved (proofs/Makes).
 use Prim.Native.Nat.{ℕ, _+_, _%_}
+use Prim.Native.Char.{code}
 use mathlib.Core.List.{List}
 use lib.ListN.{length}
 use Rattle.p0_choice.specs.Choice.{pick}
@@ -38,7 +39,7 @@ markStep m cs k =
     (record { change = Append; at = length cs; also = length cs; mark = 0; count = length cs + 1 })
 
 unfoldable pub uaStep : InputMethod → List Cell → ℕ → Step
-uaStep m cs k = placeOr (uaFor m cs k) (λ i. markAt cs 0x1b0 i) (markStep m cs k)
+uaStep m cs k = placeOr (uaFor m cs k) (λ i. markAt cs (code "ư") i) (markStep m cs k)
 
 unfoldable pub uoStep : InputMethod → List Cell → ℕ → Step
 uoStep m cs k =

@@ -15,7 +15,6 @@ use Rattle.p2_input_method.specs.Rules.{markRule, markRules}
 use Rattle.p2_input_method.specs.declared.InputMethod.{InputMethod}
 use Rattle.p2_input_method.specs.declared.InputMethod.the-variants.{Telex, Vni}
 use Rattle.p2_input_method.specs.declared.MarkRule.{MarkRule}
-use Rattle.p2_input_method.specs.declared.UndoBehavior.{UndoBehavior}
 use Rattle.p3_cells.specs.Cells.{limit, blank, isSound, used}
 use Rattle.p3_cells.specs.Places.{placeOr}
 use Rattle.p3_cells.specs.declared.Cell.{Cell}
@@ -36,7 +35,7 @@ gives a = pick (inAlphabet a) (inAlphabet (asciiUpper a)) false
 abbrev pub Fine : ℕ → Undoing → Type 0
 Fine n Nothing = Unit
 Fine n (Tone i) = i < n
-Fine n (Mark i a b) = (i < n) × (gives a ≡ true)
+Fine n (Mark i r) = (i < n) × (gives (r .first) ≡ true)
 
 below : (p : Cell → Bool) (cs : List Cell) (n j : ℕ) → lastWith p cs n ≡ At j → j < n
 unfolding lastWith
@@ -67,7 +66,7 @@ module _ (cs : List Cell) (raw : List ℕ) (t : ℕ) where
   unfolding byRules
   rules-fine [] h = tt
   rules-fine (r ∷ rs) h =
-      next-fine (length cs) (ruleAt cs raw t r) (λ (i : ℕ). Mark i (r .first) (r .undo)) (byRules cs raw t rs)
+      next-fine (length cs) (ruleAt cs raw t r) (λ (i : ℕ). Mark i r) (byRules cs raw t rs)
       (λ i e. (rule-below r i e, pick-first (gives (r .first)) _ h)) (rules-fine rs (pick-second (gives (r .first)) _ h))
 
   tone-below : (j : ℕ) → toneAt cs raw t ≡ At j → j < length cs
@@ -95,11 +94,11 @@ module _ (c : Composition) (raw : List ℕ) (t : ℕ) (u : Undoing) (s : isSound
   pub tone-in-use : (i : ℕ) → u ≡ Tone i → i < c .count
   tone-in-use i q = rw q at fine
 
-  pub mark-in-use : (i a : ℕ) (b : UndoBehavior) → u ≡ Mark i a b → i < c .count
-  mark-in-use i a b q = (rw q at fine) .0
+  pub mark-in-use : (i : ℕ) (r : MarkRule) → u ≡ Mark i r → i < c .count
+  mark-in-use i r q = (rw q at fine) .0
 
   pub tone-place : (i : ℕ) → u ≡ Tone i → i < limit
   tone-place i q = omega (arith, tone-in-use i q, count-fits c s)
 
-  pub mark-place : (i a : ℕ) (b : UndoBehavior) → u ≡ Mark i a b → i < limit
-  mark-place i a b q = omega (arith, mark-in-use i a b q, count-fits c s)
+  pub mark-place : (i : ℕ) (r : MarkRule) → u ≡ Mark i r → i < limit
+  mark-place i r q = omega (arith, mark-in-use i r q, count-fits c s)

@@ -72,7 +72,7 @@ module _ (cs : List Cell) (raw : List ℕ) (t : ℕ) where
     pub split : rs ≡ before ++ (rule ∷ after)
     pub none : NoneOf before
     pub found : ruleAt cs raw t rule ≡ At cell
-    pub undoes : u ≡ Mark cell (rule .first) (rule .undo)
+    pub undoes : u ≡ Mark cell rule
 
   -- no rule has one and nothing is undone, or the first that has one is
   pub first-rule : (rs : List MarkRule) → (NoneOf rs × (byRules cs raw t rs ≡ Nothing)) ⊎ FirstRule rs (byRules cs raw t rs)
@@ -81,8 +81,8 @@ module _ (cs : List Cell) (raw : List ℕ) (t : ℕ) where
   first-rule (r ∷ rs) = go (ruleAt cs raw t r) refl (first-rule rs)
     where
       go : (p : Place) → ruleAt cs raw t r ≡ p → (NoneOf rs × (byRules cs raw t rs ≡ Nothing)) ⊎ FirstRule rs (byRules cs raw t rs)
-          → (NoneOf (r ∷ rs) × (placeOr p (λ i. Mark i (r .first) (r .undo)) (byRules cs raw t rs) ≡ Nothing))
-          ⊎ FirstRule (r ∷ rs) (placeOr p (λ i. Mark i (r .first) (r .undo)) (byRules cs raw t rs))
+          → (NoneOf (r ∷ rs) × (placeOr p (λ i. Mark i r) (byRules cs raw t rs) ≡ Nothing))
+          ⊎ FirstRule (r ∷ rs) (placeOr p (λ i. Mark i r) (byRules cs raw t rs))
       go (At i) e f = inr (record { before = []; rule = r; after = rs; cell = i; split = refl; none = tt; found = e; undoes = refl })
       go Nowhere e (inl f) = inl ((e, f .0), f .1)
       go Nowhere e (inr f) =

@@ -50,7 +50,7 @@ module _ (c : Composition) (s : isSound c ≡ true) (n : length (c .cells) ≡ l
   unfolding undoFound undone toneless
   found-sound Nothing f = s
   found-sound (Tone i) f = set-sound i toneless f (λ x e. toneless-cell x e)
-  found-sound (Mark i a b) f = set-sound i (restored a) (f .0) (λ x e. restored-cell a x (f .1) e)
+  found-sound (Mark i r) f = set-sound i (restored (r .first)) (f .0) (λ x e. restored-cell (r .first) x (f .1) e)
 
   pub undo-sound : (k : ℕ) (raw : List ℕ) → isSound (undoTelex c k raw .comp) ≡ true
   unfolding undoTelex

@@ -91,11 +91,11 @@ module _ (cs : List Cell) (raw : List ℕ) (t : ℕ) (s : Undoing) (i : ℕ) (e 
   rules-none l = sym (e ∙ rw (drop-of-length-le (markRules Telex) l) refl)
 
   module _ (r : MarkRule) (p : Place) (l : i < 7) (f : r ≡ getD (markRules Telex) i noRule) (q : p ≡ ruleAt cs raw t r) where
-    rules-turn : s ≡ placeOr p (λ (j : ℕ). Mark j (r .first) (r .undo)) (byRules cs raw t (drop (i + 1) (markRules Telex)))
+    rules-turn : s ≡ placeOr p (λ (j : ℕ). Mark j r) (byRules cs raw t (drop (i + 1) (markRules Telex)))
     unfolding byRules markRules
     rules-turn = e ∙ rw (add-one i, drop-cons (markRules Telex) i noRule l, ← f, ← q) refl
 
-    pub rules-found : (j : ℕ) → p ≡ At j → Mark j (r .first) (r .undo) ≡ s
+    pub rules-found : (j : ℕ) → p ≡ At j → Mark j r ≡ s
     rules-found j h = sym (rules-turn ∙ rw h refl)
 
     pub rules-on : p ≡ Nowhere → s ≡ byRules cs raw t (drop (i + 1) (markRules Telex))

@@ -11,13 +11,12 @@ ghost use Rattle.p2_input_method.specs.declared.InputMethod.the-variants.{Telex
 ghost use Rattle.p3_cells.specs.Cells.{limit, isSound, used};
 ghost use Rattle.p3_undo.specs.Raw.{lowered, endsIn, pairAt, lastEnd, anyPlain, active};
 ghost use Rattle.p3_undo.specs.Undo.{lastWith, hasTone, hasMark, ruleAt, byRules, toneAt, toUndo, toneless as tonelessOf, restored as restoredOf};
-ghost use Rattle.p3_undo.specs.Call.{toldOf, refused, undoFound, undoTelex};
+ghost use Rattle.p3_undo.specs.Call.{behaviour as behaviourOf, refused, undoFound, undoTelex};
 use p0_refusals::Refusal;
 use p1_letters as letters;
 use p2_input_method as input_method;
 use p2_input_method::InputMethod;
 use p2_input_method::MarkRule;
-use p2_input_method::UndoBehavior;
 use p3_cells as cells;
 use p3_cells::Cell;
 use p3_cells::Composition;
@@ -38,11 +37,11 @@ pub struct Undone {
     pub answer: TelexUndo,
 }
 
-// The cell that loses its tone; or the cell that gets a rule's first letter back, with that letter and the rule's behaviour.
+// The cell that loses its tone; or the cell that gets a rule's first letter back, with that rule.
 pub enum Undoing {
     Nothing,
     Tone(usize),
-    Mark(usize, u32, UndoBehavior),
+    Mark(usize, MarkRule),
 }
 
 // ---- the raw string
@@ -196,8 +195,7 @@ fn by_rules(c: Composition, raw: &[u32], t: u32) -> Undoing
         let r = input_method::telex_rule(i);
         let p = rule_at(c, raw, t, r);
         if let Place::At(j) = p {
-            let b = r.undo;
-            return Undoing::Mark(j, r.first, b);
+            return Undoing::Mark(j, r);
         }
         i += 1;
     }
@@ -262,13 +260,17 @@ fn restored(a: u32, x: Cell) -> Cell
     }
 }
 
-fn told(b: UndoBehavior) -> TelexUndo
-    ensures { λ r. ⌜ r ≡ toldOf b ⌝ }
+// dd consumes its trigger, the others append it.
+fn behaviour(r: MarkRule) -> TelexUndo
+    ensures { λ a. ⌜ a ≡ behaviourOf r ⌝ }
 {
-    match b {
-        UndoBehavior::AppendTrigger => TelexUndo::AppendTrigger,
-        UndoBehavior::ConsumeTrigger => TelexUndo::ConsumeTrigger,
+    if r.first != 100 {
+        return TelexUndo::AppendTrigger;
     }
+    if r.key != 100 {
+        return TelexUndo::AppendTrigger;
+    }
+    TelexUndo::ConsumeTrigger
 }
 
 // Stores what is found.
@@ -291,11 +293,11 @@ fn undo_found(mut c: Composition, raw: &[u32], t: u32) -> Undone
                 answer: TelexUndo::AppendTrigger,
             }
         }
-        Undoing::Mark(i, a, b) => {
+        Undoing::Mark(i, r) => {
             let x = c.cells[i];
-            let y = restored(a, x);
+            let y = restored(r.first, x);
             c.cells[i] = y;
-            let w = told(b);
+            let w = behaviour(r);
             Undone { comp: c, answer: w }
         }
     }

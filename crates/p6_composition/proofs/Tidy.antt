@@ -68,7 +68,7 @@ found-tidy : (c : Composition) (u : Undoing) → Tidy c → Tidy (undoFound c u 
 unfolding undoFound
 found-tidy c Nothing e = e
 found-tidy c (Tone i) e = holding-tidy c _
-found-tidy c (Mark i a b) e = holding-tidy c _
+found-tidy c (Mark i r) e = holding-tidy c _
 
 undo-tidy : (c : Composition) (t : ℕ) (raw : List ℕ) → Tidy c → Tidy (undoTelex c t raw .comp)
 unfolding undoTelex

@@ -10,7 +10,8 @@ use borrow.Author.Tests.{ltb-false}
 use lib.ListN.{length, take, drop, getD, set, length-set, length-append, length-drop}
 use lib.Seq.{paste-suc, take-suc-set, length-take-le, take-all}
 use Rattle.p0_choice.proofs.Choices.{pick-lt, pick-not-lt, pick-eq, pick-ne, pick-both}
-use Rattle.p7_bench.specs.Run.{after, lineEnd}
+use Rattle.p0_choice.specs.Text.{lineEnd}
+use Rattle.p7_bench.specs.Run.{after}
 use Rattle.p7_bench.specs.Floor.{Sheet, copied, freePlace, longer, lay, blankSheet}
 use Rattle.p7_bench.proofs.Run.{Run, run-start, run-more, run-end}
 

@@ -11,7 +11,8 @@ use Rattle.p3_calls.specs.Settings.{created}
 use Rattle.p3_cells.specs.declared.Composition.{Composition}
 use Rattle.p3_key.specs.Process.{keyOutcome, keyed}
 use Rattle.p3_cells.specs.declared.Changed.{Changed}
-use Rattle.p7_bench.specs.Run.{after, lineEnd}
+use Rattle.p0_choice.specs.Text.{lineEnd}
+use Rattle.p7_bench.specs.Run.{after}
 use Rattle.p7_bench.specs.Typing.{Typed, refusalsOf, press, fresh}
 use Rattle.p7_bench.proofs.Run.{Run, run-start, run-more, run-end}
 

@@ -4,7 +4,7 @@ use mathlib.Core.List.{List, [], _∷_, _++_}
 use lib.Dec.{eqb, ltb}
 use lib.ListN.{length, drop, take}
 use Rattle.p0_choice.specs.Choice.{pick}
-use Rattle.p7_bench.specs.Run.{lineEnd}
+use Rattle.p0_choice.specs.Text.{lineEnd}
 
 pub record Sheet : Type 0 where
   pub row : List ℕ
@@ -22,6 +22,7 @@ freePlace n = pick (ltb n 32) n 0
 unfoldable pub longer : List ℕ → ℕ → List ℕ
 longer row k = take (freePlace (length row)) row ++ (k ∷ [])
 
+-- a line end starts afresh
 unfoldable pub lay : Sheet → ℕ → Sheet
 lay s k =
     pick (eqb k lineEnd) (record { row = []; text = s .text })

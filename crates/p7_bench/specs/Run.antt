@@ -6,7 +6,3 @@ use mathlib.Core.List.{List, [], _∷_}
 unfoldable pub after : {A : Type 0} → (A → ℕ → A) → A → List ℕ → A
 after f a [] = a
 after f a (k ∷ ks) = after f (f a k) ks
-
--- U+000A starts afresh
-abbrev pub lineEnd : ℕ
-lineEnd = 10

@@ -3,6 +3,7 @@ use Prim.Native.Nat.{ℕ}
 use mathlib.Core.List.{List, [], _∷_, _++_}
 use lib.Dec.{eqb}
 use Rattle.p0_choice.specs.Choice.{pick}
+use Rattle.p0_choice.specs.Text.{lineEnd}
 use Rattle.p2_input_method.specs.declared.InputMethod.{InputMethod}
 use Rattle.p7_line.specs.Line.{refusedLine, lineOut}
 use Rattle.p7_line.specs.Method.{methodOf}
@@ -13,7 +14,7 @@ use Rattle.p7_line.specs.declared.Begun.the-variants.{With, Refused}
 unfoldable pub linesFrom : List ℕ → List ℕ → List (List ℕ)
 linesFrom [] [] = []
 linesFrom (a ∷ line) [] = (a ∷ line) ∷ []
-linesFrom line (b ∷ input) = pick (eqb b 10) (line ∷ linesFrom [] input) (linesFrom (line ++ (b ∷ [])) input)
+linesFrom line (b ∷ input) = pick (eqb b lineEnd) (line ∷ linesFrom [] input) (linesFrom (line ++ (b ∷ [])) input)
 
 -- "then one line of keys per fresh composition"
 unfoldable pub allLines : InputMethod → List (List ℕ) → List ℕ

@@ -4,6 +4,7 @@ use mathlib.Core.List.{List, [], _∷_, _++_}
 use lib.Dec.{eqb, ltb}
 use lib.ListN.{length, take, set}
 use Rattle.p0_choice.specs.Choice.{pick}
+use Rattle.p0_choice.specs.Text.{lineEnd}
 use Rattle.p7_line.specs.Line.{most, lineRoom, refusedLine, lineOut}
 use Rattle.p7_line.specs.Method.{methodOf}
 use Rattle.p7_line.specs.declared.Begun.{Begun}
@@ -56,10 +57,10 @@ endOut Ended l = []
 
 -- a byte
 unfoldable pub stepTo : State → ℕ → State
-stepTo s b = pick (eqb b 10) (state [] (endPhase (s .phase) (s .held))) (state (hold (s .held) b) (s .phase))
+stepTo s b = pick (eqb b lineEnd) (state [] (endPhase (s .phase) (s .held))) (state (hold (s .held) b) (s .phase))
 
 unfoldable pub stepOut : State → ℕ → List ℕ
-stepOut s b = pick (eqb b 10) (endOut (s .phase) (s .held)) []
+stepOut s b = pick (eqb b lineEnd) (endOut (s .phase) (s .held)) []
 
 -- a part of the input
 unfoldable pub runTo : State → List ℕ → State
@@ -88,7 +89,7 @@ fed s part =
 unfoldable pub lineAfter : List ℕ → ℕ → List ℕ → List ℕ
 lineAfter line len [] = line
 lineAfter line len (b ∷ bs) =
-    pick (eqb b 10) (lineAfter line 0 bs)
+    pick (eqb b lineEnd) (lineAfter line 0 bs)
     (pick (ltb len most) (lineAfter (set line len b) (len + 1) bs) (lineAfter line len bs))
 
 -- the end of the input: an unfinished line counts if it has a byte, and the method line always

@@ -1,10 +1,10 @@
 -- Document 01, "Examples to hold it to": what the program `wordline` prints for "one line of keys per fresh composition".
-use Prim.Native.Nat.{ℕ, _+_, _*_}
+use Prim.Native.Nat.{ℕ, _+_, _*_, _/_, _%_}
 use mathlib.Core.List.{List, [], _∷_, _++_}
 use lib.Dec.{ltb}
-use lib.ListN.{length}
+use lib.ListN.{length, getD}
 use Rattle.p0_choice.specs.Choice.{pick}
-use Rattle.p0_choice.specs.Text.{word}
+use Rattle.p0_choice.specs.Text.{word, lineEnd}
 use Rattle.p0_refusals.specs.Refusals.{numberOf}
 use Rattle.p0_refusals.specs.declared.Refusal.{Refusal}
 use Rattle.p0_refusals.specs.declared.Refusal.the-variants.{Full}
@@ -26,17 +26,23 @@ most = byteLimit + 1
 abbrev pub lineRoom : ℕ
 lineRoom = 3 * limit + 5
 
--- a number of the table, of which none is over 10, in decimal digits
+unfoldable pub digit : ℕ → ℕ
+digit n = getD (word "0123456789") n 0
+
+-- a number of the table, of which none has more than two decimal digits
 unfoldable pub digits : ℕ → List ℕ
-digits n = pick (ltb n 10) ((48 + n) ∷ []) (49 ∷ (38 + n) ∷ [])
+digits n = pick (ltb n 10) (digit n ∷ []) (digit (n / 10) ∷ digit (n % 10) ∷ [])
 
 -- "a refused line prints `refused` and the number after one space. Every printed line ends in U+000A"
 unfoldable pub refusedLine : Refusal → List ℕ
-refusedLine r = word "refused " ++ (digits (numberOf r) ++ (10 ∷ []))
+refusedLine r = word "refused " ++ (digits (numberOf r) ++ (lineEnd ∷ []))
+
+abbrev pub tab : ℕ
+tab = 0x09
 
 -- "Per line it prints the text, a tab, and yes or no for the text's verdict"
 unfoldable pub textLine : List ℕ → List ℕ
-textLine text = encodeAll text ++ (9 ∷ (pick (verdict text) (word "yes") (word "no") ++ (10 ∷ [])))
+textLine text = encodeAll text ++ (tab ∷ (pick (verdict text) (word "yes") (word "no") ++ (lineEnd ∷ [])))
 
 -- the cells that a line of keys makes, or none where "a letter must be appended and 32 cells are used"
 pub data Typed : Type 0 where
