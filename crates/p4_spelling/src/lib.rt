@@ -1,5 +1,6 @@
 // Cut and verdict (document 01, port order 4: `spelling.rs`). A word is cut into onset, vowels and coda, and judged by
 // the rows of `p4_rows`.
+use p0_refusals::LETTERS;
 use p0_refusals::Refusal;
 use p1_letters as letters;
 use p4_rows as rows;
@@ -143,7 +144,7 @@ pub fn coda_part(word: &[u32], at: Places) -> &[u32]
 pub fn partition(word: &[u32]) -> Cut
     ensures { λ r. ⌜ r ≡ cutAnswer (now (word .entry)) ⌝ }
 {
-    if 64 < word.len() {
+    if LETTERS < word.len() {
         return Cut::Refused(Refusal::Long);
     }
     if !letters::all_letters(word) {
@@ -219,7 +220,7 @@ pub fn accepts(word: &[u32]) -> bool
 pub fn is_valid_vietnamese_syllable(word: &[u32]) -> Verdict
     ensures { λ r. ⌜ r ≡ verdictAnswer (now (word .entry)) ⌝ }
 {
-    if 64 < word.len() {
+    if LETTERS < word.len() {
         return Verdict::Refused(Refusal::Long);
     }
     if accepts(word) {

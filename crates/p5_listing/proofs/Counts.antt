@@ -22,7 +22,7 @@ use Rattle.p5_trie.proofs.Tests.{holds}
 use Rattle.p5_trie.proofs.Numbering as Tries
 use Rattle.p5_trie.proofs.Kept.{kept, kept-lists}
 use Rattle.p5_listing.specs.Listed.{Listed}
-use Rattle.p5_listing.specs.Counts.{isBareOnset, isWithoutOnset, hasBoth, ManyListed, Counts}
+use Rattle.p5_listing.specs.Counts.{longestLength, isBareOnset, isWithoutOnset, hasBoth, ManyListed, Counts}
 use Rattle.p5_listing.specs.Cells.{letters, stops, downs, nexts, grow, trieAt, listing}
 use Rattle.p5_listing.proofs.Plain.{Toneless, plain-toneless}
 use Rattle.p5_listing.proofs.Quick.{quickAmong, quick-vowel}
@@ -163,13 +163,13 @@ longest-held : T (holds listing longest)
 unfolding longest holds listing trieAt grow letters stops downs nexts word
 longest-held = tt
 
-eight-letters : length longest ≡ 8
+eight-letters : length longest ≡ longestLength
 unfolding longest word
 eight-letters = refl
 
-none-longer : (u : Word) → Listed u → length u ≤ 8
+none-longer : (u : Word) → Listed u → length u ≤ longestLength
 none-longer u l =
-    ⊎-elim (λ h. absurd (let t : T (verdict u) = l .accepted in rw (← too-long u h) at t)) (λ h. h) (below-or-not 8 (length u))
+    ⊎-elim (λ h. absurd (let t : T (verdict u) = l .accepted in rw (← too-long u h) at t)) (λ h. h) (below-or-not longestLength (length u))
 
 -- "5,963 toneless words pass: 25 bare onsets, 217 without onset, 5,721 with onset and vowels"; "The longest has 8 letters."
 pub counts : Counts

@@ -1,3 +1,4 @@
+pub mod Header
 pub mod LetterCalls
 pub mod ListerCalls
 pub mod MethodCalls
