@@ -26,7 +26,8 @@ module _ (c : Composition) (key : ℕ) where
   unfolding written isFull textOf
   written-short = go (c .mode)
     where
-      go : (m : Mode) → inMode m (ltb limit (length (next c key))) false ≡ false → length (inMode m (textOf (next c key)) (key ∷ [])) ≤ limit
+      go : (m : Mode) → inMode m (ltb limit (length (next c key))) false ≡ false
+          → length (inMode m (textOf (next c key)) (key ∷ [])) ≤ limit
       go Vietnamese e = omega (arith, length-map (next c key) shown, ltb-false limit (length (next c key)) e)
       go English e = omega arith
 

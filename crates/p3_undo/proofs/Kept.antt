@@ -55,7 +55,9 @@ module _ (c : Composition) (s : isSound c ≡ true) (n : length (c .cells) ≡ l
 
   pub undo-sound : (k : ℕ) (raw : List ℕ) → isSound (undoTelex c k raw .comp) ≡ true
   unfolding undoTelex
-  undo-sound k raw = go (isSound c) (ltb letterLimit (length raw)) (inAlphabet k) (allLetters raw) (found-sound u (undo-fine (used c) (lowered raw) (asciiLower k) (c .method)))
+  undo-sound k raw =
+      go (isSound c) (ltb letterLimit (length raw)) (inAlphabet k) (allLetters raw)
+      (found-sound u (undo-fine (used c) (lowered raw) (asciiLower k) (c .method)))
     where
       u : Undoing
       u = toUndo (c .method) (used c) (lowered raw) (asciiLower k)

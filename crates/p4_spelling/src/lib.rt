@@ -18,6 +18,9 @@ ghost use Rattle.p4_spelling.specs.Cut.{beforeVowel, vowelRun, isGlue, o
 ghost use Rattle.p4_spelling.specs.Verdict.{codaFits, fits as fitting, verdict};
 ghost use Rattle.p4_spelling.specs.Answers.{placesOf, onsetPart, vowelsPart, codaPart, cutAnswer, verdictAnswer};
 
+// The letters of the longest accepted word; `longestLength` says the same.
+pub const LONGEST: usize = 8;
+
 // Where a word is cut: its onset ends before `onset`, its vowels end before `vowels`.
 pub struct Places {
     pub onset: usize,
@@ -195,16 +198,16 @@ fn fits(word: &[u32]) -> bool
     coda_fits(vowels, &word[b..])
 }
 
-// Whether a word is accepted. No accepted word has over 8 letters; and of f j w z, which it may not have, no row has one
+// Whether a word is accepted. None that is longer than LONGEST is; and of f j w z, which it may not have, no row has one
 // but the onset z.
 pub fn accepts(word: &[u32]) -> bool
     ensures { λ r. ⌜ r ≡ verdict (now (word .entry)) ⌝ }
 {
     let n = word.len();
-    if 8 < n {
+    if LONGEST < n {
         return false;
     }
-    let mut plain = [0u32; 8];
+    let mut plain = [0u32; LONGEST];
     let mut i: usize = 0;
     while i < n {
         plain[i] = letters::strip_tone(letters::lower(word[i]));

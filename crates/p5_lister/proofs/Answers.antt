@@ -21,7 +21,8 @@ use Rattle.p5_trie.proofs.Unique.{one-total, one-numbering}
 use Rattle.p5_trie.proofs.Numbering as Tries
 use Rattle.p5_listing.specs.Listed.{Listed}
 use Rattle.p5_listing.specs.Cells.{listing}
-use Rattle.p5_listing.specs.Counts.{wordCount, longestLength}
+use Rattle.p5_listing.specs.Counts.{wordCount}
+use Rattle.p4_spelling.specs.Verdict.{longestLength}
 use Rattle.p5_listing.proofs.Numbering.{lists, numbering}
 use Rattle.p5_lister.specs.Meaning.{NumberMeans, word, none, Permitted, NextMeans, long, foreign, last, next}
 
@@ -42,7 +43,8 @@ module _ (n : ℕ) (o : List ℕ) where
     f ∙ refuses-output _ _ refl o,
   )
 
-  module _ (len : ℕ) (l : List ℕ) (h : n < wordCount) (is : take len l ≡ nth listing n) (eight : length l ≡ longestLength) (small : len ≤ longestLength) where
+  module _ (len : ℕ) (l : List ℕ) (h : n < wordCount) (is : take len l ≡ nth listing n)
+      (eight : length l ≡ longestLength) (small : len ≤ longestLength) where
     is-word : NumberMeans Listed n (writes (nth listing n))
     is-word = word (nth listing n) (record { order = nth listing; total = wordCount; numbers = numbering; small = h; is = refl }) refl
 

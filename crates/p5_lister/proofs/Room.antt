@@ -14,7 +14,7 @@ use Rattle.p0_refusals.proofs.Answers.{refuses-answer, writes-answer}
 use Rattle.p4_rows.specs.Rows.{Word}
 use Rattle.p5_trie.proofs.Unique.{name-has}
 use Rattle.p5_listing.specs.Listed.{Listed}
-use Rattle.p5_listing.specs.Counts.{longestLength}
+use Rattle.p4_spelling.specs.Verdict.{longestLength}
 use Rattle.p5_listing.proofs.Counts.{counts}
 use Rattle.p5_lister.specs.Meaning.{NumberMeans, word, none, NextMeans, long, foreign, last, next}
 use Rattle.p5_lister.proofs.Answers.{Answers}

@@ -11,7 +11,8 @@ use Rattle.p5_trie.specs.Trie.{Trie, cell, size, nth}
 use Rattle.p5_trie.proofs.Tests.{depth}
 use Rattle.p5_trie.proofs.Words.{nth-end, nth-into, nth-past, size-cell, size-none}
 use Rattle.p5_listing.specs.Cells.{cellCount, rootCell, trieAt, listing}
-use Rattle.p5_listing.specs.Counts.{wordCount, longestLength}
+use Rattle.p5_listing.specs.Counts.{wordCount}
+use Rattle.p4_spelling.specs.Verdict.{longestLength}
 use Rattle.p5_listing.proofs.Cells.{letterAt, stopAt, downAt, nextAt, weightAt, endsAt, Right, is-right, root, at-none, opens}
 use Rattle.p5_listing.proofs.Computed.{size-listing, depth-listing}
 

@@ -6,6 +6,7 @@ use p0_refusals::Answer;
 use p0_refusals::LETTERS;
 use p0_refusals::Refusal;
 use p1_letters as letters;
+use p4_spelling::LONGEST;
 ghost use mathlib.Core.Path.{_≡_};
 ghost use mathlib.Core.List.{_++_};
 ghost use Prim.Native.Nat.{_≤_, _<_};
@@ -14,15 +15,13 @@ ghost use Rattle.p5_trie.specs.Trie.{nth, upTo};
 ghost use Rattle.p5_trie.specs.Numbering.{Many};
 ghost use Rattle.p5_listing.specs.Listed.{Listed};
 ghost use Rattle.p5_listing.specs.Cells.{listing};
-ghost use Rattle.p5_listing.specs.Counts.{wordCount, longestLength};
+ghost use Rattle.p4_spelling.specs.Verdict.{longestLength};
+ghost use Rattle.p5_listing.specs.Counts.{wordCount};
 ghost use Rattle.p0_refusals.specs.Answers.{Outcome, answer, output};
 ghost use Rattle.p5_lister.specs.Meaning.{NumberMeans, NextMeans};
 
 // How many words are listed; `wordCount` says the same.
 const TOTAL: usize = 5963;
-
-// The letters of the longest listed word; `longestLength` says the same.
-pub const LONGEST: usize = 8;
 
 // A listed word: the first `len` letters.
 struct Spelled {

@@ -15,14 +15,14 @@ use Rattle.p4_rows.specs.Rows.{Word}
 use Rattle.p4_rows.specs.Lookup.{isEmpty}
 use Rattle.p4_rows.proofs.Words.{each-in}
 use Rattle.p4_spelling.specs.Cut.{beforeVowel, vowelRun, isGlue, startsGlued, onsetEnd, onsetOf, vowelsOf}
-use Rattle.p4_spelling.specs.Verdict.{verdict}
+use Rattle.p4_spelling.specs.Verdict.{verdict, longestLength}
 use Rattle.p4_spelling.proofs.Folding.{too-long}
 use Rattle.p5_trie.specs.Trie.{Trie, size, nth}
 use Rattle.p5_trie.proofs.Tests.{holds}
 use Rattle.p5_trie.proofs.Numbering as Tries
 use Rattle.p5_trie.proofs.Kept.{kept, kept-lists}
 use Rattle.p5_listing.specs.Listed.{Listed}
-use Rattle.p5_listing.specs.Counts.{longestLength, isBareOnset, isWithoutOnset, hasBoth, ManyListed, Counts}
+use Rattle.p5_listing.specs.Counts.{isBareOnset, isWithoutOnset, hasBoth, ManyListed, Counts}
 use Rattle.p5_listing.specs.Cells.{letters, stops, downs, nexts, grow, trieAt, listing}
 use Rattle.p5_listing.proofs.Plain.{Toneless, plain-toneless}
 use Rattle.p5_listing.proofs.Quick.{quickAmong, quick-vowel}

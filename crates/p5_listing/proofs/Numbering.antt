@@ -50,7 +50,8 @@ numbering = subst (λ (n : ℕ). Numbering Listed (nth listing) n) size-listing 
 -- "A word is accepted exactly if its lower-case toneless form is listed."
 pub accepted-has-number : (w : Word) → T (verdict w) → (n : ℕ) × Named Listed n (plain w)
 accepted-has-number w t =
-    let r : Found (nth listing) wordCount (plain w) = numbering .every (plain w) (record { accepted = rw (verdict-plain w) t; isPlain = plain-again w }) in
+    let r : Found (nth listing) wordCount (plain w) =
+    numbering .every (plain w) (record { accepted = rw (verdict-plain w) t; isPlain = plain-again w }) in
     (r .number, record { order = nth listing; total = wordCount; numbers = numbering; small = r .small; is = r .is })
 
 pub number-is-accepted : (w : Word) (n : ℕ) → Named Listed n (plain w) → T (verdict w)

@@ -1,4 +1,4 @@
--- How many words are listed, and how long the longest is.
+-- How many words are listed, and of which kinds.
 use Prim.Native.Nat.{ℕ}
 use mathlib.Core.Bool.{Bool, true, false}
 use lib.Dec.{T}
@@ -6,16 +6,13 @@ use Rattle.p0_choice.specs.Choice.{pick}
 use Rattle.p4_rows.specs.Rows.{Word}
 use Rattle.p4_rows.specs.Lookup.{isEmpty}
 use Rattle.p4_spelling.specs.Cut.{onsetOf, vowelsOf}
+use Rattle.p4_spelling.specs.Verdict.{longestLength}
 use Rattle.p5_trie.specs.Numbering.{Many, Longest}
 use Rattle.p5_listing.specs.Listed.{Listed}
 
 -- "By our count 5,963 toneless words pass"
 abbrev pub wordCount : ℕ
 wordCount = 5963
-
--- "The longest has 8 letters."
-abbrev pub longestLength : ℕ
-longestLength = 8
 
 -- ".. 25 bare onsets, 217 without onset, 5,721 with onset and vowels."
 unfoldable pub isBareOnset : Word → Bool
@@ -36,4 +33,5 @@ pub record Counts : Type 0 where
   pub bare : ManyListed isBareOnset 25
   pub without : ManyListed isWithoutOnset 217
   pub both : ManyListed hasBoth 5721
+  -- "The longest has 8 letters."
   pub longest : Longest Listed longestLength

@@ -75,7 +75,9 @@ undo-tidy : (c : Composition) (t : ℕ) (raw : List ℕ) → Tidy c → Tidy (un
 unfolding undoTelex
 undo-tidy c t raw e =
     either (isSound c) _ _
-    (either (ltb letterLimit (length raw)) _ _ e (either (inAlphabet t) _ _ (either (allLetters raw) _ _ (found-tidy c (toUndo (c .method) (used c) (lowered raw) (asciiLower t)) e) e) e)) e
+    (either (ltb letterLimit (length raw)) _ _ e
+    (either (inAlphabet t) _ _
+    (either (allLetters raw) _ _ (found-tidy c (toUndo (c .method) (used c) (lowered raw) (asciiLower t)) e) e) e)) e
   where
     either : (s : Bool) (a d : Undone) → Tidy (a .comp) → Tidy (d .comp) → Tidy (pick s a d .comp)
     either true a d p q = p

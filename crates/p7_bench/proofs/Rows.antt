@@ -51,9 +51,13 @@ pub record Laying (keys d text row : List ℕ) (count i : ℕ) : Type 0 where
   pub run : Run lay (blankSheet d) keys (record { row = take count row; text = text }) i
 
 -- where the row is full, nothing of it stays
-stays : (row : List ℕ) (count : ℕ) → length row ≡ limit → count ≤ limit → take (freePlace (length (take count row))) (take count row) ≡ take (freePlace count) row
+stays : (row : List ℕ) (count : ℕ) → length row ≡ limit → count ≤ limit
+    → take (freePlace (length (take count row))) (take count row) ≡ take (freePlace count) row
 unfolding freePlace
-stays row count e h = rw (length-take-le count row (omega arith)) (pick-both (λ (n : ℕ). take n (take count row) ≡ take n row) (ltb count limit) count 0 (λ t. take-all count (take count row) (omega (arith, length-take-le count row (omega arith)))) (λ t. refl))
+stays row count e h =
+    rw (length-take-le count row (omega arith))
+    (pick-both (λ (n : ℕ). take n (take count row) ≡ take n row) (ltb count limit) count 0
+    (λ t. take-all count (take count row) (omega (arith, length-take-le count row (omega arith)))) (λ t. refl))
 
 copied-length : (row text : List ℕ) → length (copied row text) ≡ length text
 unfolding copied

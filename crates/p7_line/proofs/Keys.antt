@@ -31,7 +31,8 @@ pub read-small : (s xs : List ℕ) → reading s ≡ writes xs → (length xs �
 unfolding reading
 read-small s xs e = go (ltb byteLimit (length s)) refl e
   where
-    go : (b : Bool) → ltb byteLimit (length s) ≡ b → pick b (refuses Long) (letters s) ≡ writes xs → (length xs ≤ byteLimit) × (allLetters xs ≡ true)
+    go : (b : Bool) → ltb byteLimit (length s) ≡ b → pick b (refuses Long) (letters s) ≡ writes xs
+        → (length xs ≤ byteLimit) × (allLetters xs ≡ true)
     go true p q = let z : _≡_ {A = ℕ} 0 1 = cc in absurd (omega arith)
     go false p q =
         let h = letters-exactly s xs .0 q in
@@ -55,7 +56,8 @@ module _ (s o : List ℕ) (g : Answer) (e : g ≡ answer (reading s) (length o))
   unfolding answer content output
   read-whole n out q f = go (reading s) refl (sym q ∙ e) f
     where
-      go : (u : Outcome) → reading s ≡ u → Done n ≡ answer u (length o) → out ≡ output u o → (reading s ≡ writes (take n out)) × (n ≤ byteLimit)
+      go : (u : Outcome) → reading s ≡ u → Done n ≡ answer u (length o) → out ≡ output u o
+          → (reading s ≡ writes (take n out)) × (n ≤ byteLimit)
       go (writes xs) p h w =
           let k = read-small s xs p .0 in
           let m : length xs ≤ length o = omega arith in

@@ -70,6 +70,7 @@ module _ (text : List ℕ) (s b : Bool) (i : s ≡ verdict text) (y : s ≡ b) (
   pub line-end : r ≡ at + length (textLine text)
   line-end = let k = ap length line-bytes in omega (arith, length-append (encodeAll text) p)
 
-  pub line-out : (o1 o2 o3 : List ℕ) → next ≤ at + textBytes → at + lineRoom ≤ length o1 → o2 ≡ take at o1 ++ (encodeAll text ++ drop next o1)
+  pub line-out : (o1 o2 o3 : List ℕ) → next ≤ at + textBytes → at + lineRoom ≤ length o1
+      → o2 ≡ take at o1 ++ (encodeAll text ++ drop next o1)
       → o3 ≡ take next o2 ++ (p ++ drop r o2) → o3 ≡ take at o1 ++ (textLine text ++ drop r o1)
   line-out o1 o2 o3 n m u v = rw line-bytes (put-after o1 o2 o3 (encodeAll text) p at next r c d (omega arith) u v)

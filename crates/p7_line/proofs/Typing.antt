@@ -36,7 +36,8 @@ use Rattle.p7_line.specs.Line.{made, full, typed, typedLine, refusedLine
 use Rattle.p3_cells.proofs.InAlphabet.{text-letters}
 
 -- ---- one key, on a sound Vietnamese composition with a place lent for each cell
-module _ (c : Composition) (k : ℕ) (o : List ℕ) (s : isSound c ≡ true) (v : c .mode ≡ Vietnamese) (a : inAlphabet k ≡ true) (l : length o ≡ limit) where
+module _ (c : Composition) (k : ℕ) (o : List ℕ) (s : isSound c ≡ true) (v : c .mode ≡ Vietnamese)
+    (a : inAlphabet k ≡ true) (l : length o ≡ limit) where
   text-long : length (textOf (next c k)) ≡ length (next c k)
   unfolding textOf
   text-long = length-map (next c k) shown
@@ -168,7 +169,8 @@ module _ (m : InputMethod) (keys : List ℕ) (c₀ : Composition) (e : c₀ ≡ 
   typing-first text = subst (λ (d : Composition). Typing (d .method) keys d text 0 0) (sym e) (typing-start m keys text)
 
   module _ (c : Composition) (text : List ℕ) (n i : ℕ) (t : Typing (c₀ .method) keys c text n i) where
-    pub line-refused : allLetters keys ≡ true → i < length keys → length text ≡ limit → (k : ℕ) → k ≡ getD keys i 0 → (y : Changed) (r : Refusal) → y ≡ keyed c k (length text)
+    pub line-refused : allLetters keys ≡ true → i < length keys → length text ≡ limit → (k : ℕ) → k ≡ getD keys i 0
+        → (y : Changed) (r : Refusal) → y ≡ keyed c k (length text)
         → y .answer ≡ Refused r → typedLine (typed m [] keys) ≡ refusedLine r
     unfolding typedLine
     line-refused a h l k q y r d f =

@@ -97,7 +97,8 @@ pub fn method_line(line: &[u8]) -> Begun
 // A composed text in UTF-8.
 fn put_text(text: &[u32], out: &mut [u8], at: usize) -> usize
     requires { ⌜ (length (now text) ≤ limit) × (allLetters (now text) ≡ true) × (at + lineRoom ≤ length (now out)) ⌝ }
-    ensures { λ r. ⌜ (r ≡ at + length (encodeAll (now (text .entry)))) × (r ≤ at + textBytes) × (now (out .exit) ≡ take at (now (out .entry)) ++ (encodeAll (now (text .entry)) ++ drop r (now (out .entry)))) ⌝ }
+    ensures { λ r. ⌜ (r ≡ at + length (encodeAll (now (text .entry)))) × (r ≤ at + textBytes)
+        × (now (out .exit) ≡ take at (now (out .entry)) ++ (encodeAll (now (text .entry)) ++ drop r (now (out .entry)))) ⌝ }
 {
     let mut bytes = [0u8; TEXT];
     let given = p5_utf8_write::write(text, &mut bytes);

@@ -2,9 +2,10 @@
 use libc::STDOUT_FILENO;
 use p0_refusals::Answer;
 use p0_slices as slices;
+use p4_spelling::LONGEST;
 
 // The most bytes of a word.
-const WORD: usize = p5_utf8_write::WIDTH * p5_lister::LONGEST;
+const WORD: usize = p5_utf8_write::WIDTH * LONGEST;
 
 // Writes a word and a line feed; false where it is not written.
 fn print(word: &[u32]) -> bool {
@@ -23,7 +24,7 @@ fn print(word: &[u32]) -> bool {
 }
 
 fn main() {
-    let mut letters = [0u32; p5_lister::LONGEST];
+    let mut letters = [0u32; LONGEST];
     let mut n: usize = 0;
     while n < p5_lister::total() {
         let given = p5_lister::word_number(n, &mut letters);

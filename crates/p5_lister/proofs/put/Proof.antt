@@ -3,7 +3,7 @@ use mathlib.Core.Path.{_≡_, refl}
 use native.Mathlib.Omega.{arith}
 use borrow.Author.Needs.{needs}
 use lib.ListN.{length}
-use Rattle.p5_listing.specs.Counts.{longestLength}
+use Rattle.p4_spelling.specs.Verdict.{longestLength}
 use Rattle.p5_lister.proofs.Copy.{Copied, copy-more}
 use Rattle.p5_lister.proofs.put.Statement.{statement}
 use Rattle.p5_lister.proofs.put.Tie as tie

@@ -1,7 +1,8 @@
 use borrow.Author.Needs.{needs}
 use mathlib.Core.Path.{_≡_}
 use Prim.Native.Nat.{_-_}
-use Rattle.p5_listing.specs.Counts.{wordCount, longestLength}
+use Rattle.p4_spelling.specs.Verdict.{longestLength}
+use Rattle.p5_listing.specs.Counts.{wordCount}
 use lib.ListN.{length}
 use Rattle.p7_wordlist.proofs.main.Statement.{statement}
 use Rattle.p7_wordlist.proofs.main.Tie as tie
