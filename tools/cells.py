@@ -101,11 +101,18 @@ def definitions(tables):
     count = len(tables[0][2])
     text = f"""-- The listed words as {count - 1} shared cells: 0 is no cell, and a cell's down and next are lower numbers. Written by
 -- tools/cells.py from the rows; nothing is believed of these numbers: proofs/Numbering shows that the words are the accepted ones.
-use Prim.Native.Nat.{{ℕ, zero, suc}}
+use Prim.Native.Nat.{{ℕ, zero, suc, _-_}}
 use mathlib.Core.List.{{List, [], _∷_}}
 use lib.Dec.{{eqb}}
 use lib.ListN.{{getD}}
 use Rattle.p5_trie.specs.Trie.{{Trie, none, cell}}
+
+-- how many cells there are, cell 0 among them; the last is the root
+abbrev pub cellCount : ℕ
+cellCount = {count}
+
+abbrev pub rootCell : ℕ
+rootCell = cellCount - 1
 """
     for name, say, numbers, _ in tables:
         text += f"\n-- {say}\nunfoldable pub {name} : List ℕ\n{name} =\n" + lines(numbers, "{} ∷", 20) + "\n    []\n"
@@ -119,19 +126,25 @@ grow (suc k) (suc e) =
 
 -- the trie of cell e
 unfoldable pub trieAt : ℕ → Trie
-trieAt e = grow {count} e
+trieAt e = grow cellCount e
 
 -- the listed words
 unfoldable pub listing : Trie
-listing = trieAt {count - 1}
+listing = trieAt rootCell
 """
 
 
 def constants(tables):
     # one number a line, as the formatter lays arrays out
-    text = "// The table of cells that specs/Cells.antt of p5_listing defines; written by tools/cells.py.\n"
+    text = f"""// The table of cells that specs/Cells.antt of p5_listing defines; written by tools/cells.py.
+
+// how many cells there are, cell 0 among them; the last is the root
+const CELLS: usize = {len(tables[0][2])};
+
+pub const ROOT: usize = CELLS - 1;
+"""
     for name, say, numbers, kind in tables:
-        text += f"\n// {say}\npub const {name.upper()}: [{kind}; {len(numbers)}] = [\n" + lines(numbers, "{},", 1) + "\n];\n"
+        text += f"\n// {say}\npub const {name.upper()}: [{kind}; CELLS] = [\n" + lines(numbers, "{},", 1) + "\n];\n"
     return text
 
 

@@ -1,4 +1,4 @@
--- With room for 32 letters the calls that write the text never refuse by 3.
+-- With room for the letters of all cells the calls that write the text never refuse by 3.
 use Prim.Native.Nat.{ℕ, _-_, _≤_}
 use mathlib.Core.Path.{_≡_, refl}
 use mathlib.Core.Bool.{Bool, true, false}
@@ -11,7 +11,7 @@ use Rattle.p0_refusals.specs.Answers.{writes, refuses, answer}
 use Rattle.p0_refusals.specs.declared.Answer.the-variants.{Refused}
 use Rattle.p0_refusals.specs.declared.Refusal.the-variants.{Short, Empty, Unsound}
 use Rattle.p0_refusals.proofs.Room.{Fits, enough}
-use Rattle.p3_cells.specs.Cells.{isSound, used}
+use Rattle.p3_cells.specs.Cells.{limit, isSound, used}
 use Rattle.p3_cells.specs.Text.{shown, textOf}
 use Rattle.p3_cells.specs.declared.Cell.{Cell}
 use Rattle.p3_cells.specs.declared.Composition.{Composition}
@@ -23,30 +23,30 @@ unfolding textOf
 text-short n k xs h = omega (arith, length-map (take n xs) shown, length-take n xs)
 
 module _ (c : Composition) where
-  used-short : isSound c ≡ true → length (used c) ≤ 32
+  used-short : isSound c ≡ true → length (used c) ≤ limit
   unfolding used
   used-short s = omega (arith, count-fits c s, length-take (c .count) (c .cells))
 
-  text-fits : Fits 32 (textOutcome c)
+  text-fits : Fits limit (textOutcome c)
   unfolding textOutcome used
   text-fits = go (isSound c) refl
     where
-      go : (s : Bool) → isSound c ≡ s → Fits 32 (pick s (writes (textOf (take (c .count) (c .cells)))) (refuses Unsound))
-      go true s = text-short (c .count) 32 (c .cells) (count-fits c s)
+      go : (s : Bool) → isSound c ≡ s → Fits limit (pick s (writes (textOf (take (c .count) (c .cells)))) (refuses Unsound))
+      go true s = text-short (c .count) limit (c .cells) (count-fits c s)
       go false s = λ e. let z : _≡_ {A = ℕ} 0 1 = cc in omega arith
 
-  pop-fits : Fits 32 (popOutcome c)
+  pop-fits : Fits limit (popOutcome c)
   unfolding popOutcome left
   pop-fits = go (isSound c) refl (eqb (length (used c)) 0)
     where
       go : (s : Bool) → isSound c ≡ s → (b : Bool)
-          → Fits 32 (pick s (pick b (refuses Empty) (writes (textOf (take (length (used c) - 1) (used c))))) (refuses Unsound))
+          → Fits limit (pick s (pick b (refuses Empty) (writes (textOf (take (length (used c) - 1) (used c))))) (refuses Unsound))
       go true s true = λ e. let z : _≡_ {A = ℕ} 0 1 = cc in omega arith
-      go true s false = text-short (length (used c) - 1) 32 (used c) (omega (arith, used-short s))
+      go true s false = text-short (length (used c) - 1) limit (used c) (omega (arith, used-short s))
       go false s b = λ e. let z : _≡_ {A = ℕ} 0 1 = cc in omega arith
 
-  pub text-room : (n : ℕ) → 32 ≤ n → answer (textOutcome c) n ≡ Refused Short → ⊥
-  text-room n h = enough (textOutcome c) 32 n text-fits h
+  pub text-room : (n : ℕ) → limit ≤ n → answer (textOutcome c) n ≡ Refused Short → ⊥
+  text-room n h = enough (textOutcome c) limit n text-fits h
 
-  pub pop-room : (n : ℕ) → 32 ≤ n → answer (popOutcome c) n ≡ Refused Short → ⊥
-  pop-room n h = enough (popOutcome c) 32 n pop-fits h
+  pub pop-room : (n : ℕ) → limit ≤ n → answer (popOutcome c) n ≡ Refused Short → ⊥
+  pop-room n h = enough (popOutcome c) limit n pop-fits h

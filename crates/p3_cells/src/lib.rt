@@ -1,5 +1,5 @@
-// A composition: at most 32 cells, a method and a mode, by value (bamboo.rs), its soundness and its text. The count
-// comes last, so that the cells can be copied as one block of 256 bytes.
+// A composition: at most LIMIT cells, a method and a mode, by value (bamboo.rs), its soundness and its text. The count
+// comes last, so that the cells can be copied as one block.
 ghost use mathlib.Core.Path.{_≡_};
 ghost use mathlib.Core.List.{_++_};
 ghost use Prim.Native.Nat.{_<_, _≤_, _^_};

@@ -5,6 +5,7 @@ use mathlib.Core.Bool.{Bool, true, false, not}
 use mathlib.Core.List.{List}
 use lib.ListN.{length, getD, set}
 use borrow.Author.Tests.{lt-ltb, le-ltb, not-true, not-false}
+use Rattle.p0_refusals.specs.Limits.{letterLimit}
 use Rattle.p0_refusals.specs.declared.Refusal.the-variants.{Foreign, NoUndo, Long, Unsound}
 use Rattle.p1_letters.specs.Alphabet.{inAlphabet, allLetters, asciiLower}
 use Rattle.p2_input_method.specs.declared.MarkRule.{MarkRule}
@@ -14,7 +15,7 @@ use Rattle.p3_cells.specs.declared.Composition.{Composition}
 use Rattle.p3_cells.proofs.Holding.{used-at, holding-set}
 use Rattle.p3_undo.specs.Raw.{lowered}
 use Rattle.p3_undo.specs.Undo.{toUndo, toneless, restored, undone}
-use Rattle.p3_undo.specs.Call.{rawLimit, behaviour, refused, undoFound, undoTelex}
+use Rattle.p3_undo.specs.Call.{behaviour, refused, undoFound, undoTelex}
 use Rattle.p3_undo.specs.declared.TelexUndo.{TelexUndo}
 use Rattle.p3_undo.specs.declared.TelexUndo.the-variants.{AppendTrigger}
 use Rattle.p3_undo.specs.declared.Undoing.{Undoing}
@@ -52,23 +53,23 @@ module _ (c : Composition) (k : ℕ) (raw : List ℕ) (r : Undone) (s : Bool) (e
   undo-unsound h q = rw (← e, not-true s h) q
 
   module _ (h : not s ≡ false) where
-    pub undo-long : rawLimit < length raw → r ≡ refused c Long → r ≡ undoTelex c k raw
+    pub undo-long : letterLimit < length raw → r ≡ refused c Long → r ≡ undoTelex c k raw
     unfolding undoTelex
-    undo-long l q = rw (← e, not-false s h, lt-ltb rawLimit (length raw) l) q
+    undo-long l q = rw (← e, not-false s h, lt-ltb letterLimit (length raw) l) q
 
-    module _ (v : Bool) (l : length raw ≤ rawLimit) (f : v ≡ inAlphabet k) where
+    module _ (v : Bool) (l : length raw ≤ letterLimit) (f : v ≡ inAlphabet k) where
       pub undo-foreign : not v ≡ true → r ≡ refused c Foreign → r ≡ undoTelex c k raw
       unfolding undoTelex
-      undo-foreign p q = rw (← e, not-false s h, le-ltb rawLimit (length raw) l, ← f, not-true v p) q
+      undo-foreign p q = rw (← e, not-false s h, le-ltb letterLimit (length raw) l, ← f, not-true v p) q
 
       module _ (w : Bool) (p : not v ≡ false) (g : w ≡ allLetters raw) where
         pub undo-raw : not w ≡ true → r ≡ refused c Foreign → r ≡ undoTelex c k raw
         unfolding undoTelex
-        undo-raw z q = rw (← e, not-false s h, le-ltb rawLimit (length raw) l, ← f, not-false v p, ← g, not-true w z) q
+        undo-raw z q = rw (← e, not-false s h, le-ltb letterLimit (length raw) l, ← f, not-false v p, ← g, not-true w z) q
 
         pub undo-done : (t : ℕ) → not w ≡ false → t ≡ asciiLower k → r ≡ undoFound c (toUndo (c .method) (used c) (lowered raw) t) → r ≡ undoTelex c k raw
         unfolding undoTelex
-        undo-done t z d q = rw (← e, not-false s h, le-ltb rawLimit (length raw) l, ← f, not-false v p, ← g, not-false w z, ← d) q
+        undo-done t z d q = rw (← e, not-false s h, le-ltb letterLimit (length raw) l, ← f, not-false v p, ← g, not-false w z, ← d) q
 
 pub tested : (c : Composition) (s : Bool) → s ≡ isSound c → not s ≡ false → isSound c ≡ true
 tested c s e h = sym e ∙ not-false s h

@@ -9,6 +9,7 @@ use lib.Dec.{ltb}
 use lib.ListN.{length, getD, set, length-set}
 use Rattle.p0_choice.specs.Choice.{pick}
 use Rattle.p0_choice.proofs.Choices.{pick-both}
+use Rattle.p0_refusals.specs.Limits.{letterLimit}
 use Rattle.p0_refusals.specs.declared.Refusal.the-variants.{Foreign, Long, Unsound}
 use Rattle.p1_letters.specs.Alphabet.{inAlphabet, allLetters, asciiLower, asciiUpper}
 use Rattle.p3_cells.specs.Cells.{limit, blank, isCell, isSound, used, holding}
@@ -20,7 +21,7 @@ use Rattle.p3_cells.proofs.Made.{toneless-cell}
 use Rattle.p3_cells.proofs.Holding.{count-fits, used-length, used-cells, holding-sound}
 use Rattle.p3_undo.specs.Raw.{lowered}
 use Rattle.p3_undo.specs.Undo.{toUndo, toneless, restored, undone}
-use Rattle.p3_undo.specs.Call.{rawLimit, refused, undoFound, undoTelex}
+use Rattle.p3_undo.specs.Call.{refused, undoFound, undoTelex}
 use Rattle.p3_undo.specs.declared.Undoing.{Undoing}
 use Rattle.p3_undo.specs.declared.Undoing.the-variants.{Nothing, Tone, Mark}
 use Rattle.p3_undo.proofs.Found.{gives, Fine, undo-fine}
@@ -54,7 +55,9 @@ module _ (c : Composition) (s : isSound c ≡ true) (n : length (c .cells) ≡ l
 
   pub undo-sound : (k : ℕ) (raw : List ℕ) → isSound (undoTelex c k raw .comp) ≡ true
   unfolding undoTelex
-  undo-sound k raw = go (isSound c) (ltb rawLimit (length raw)) (inAlphabet k) (allLetters raw) (found-sound u (undo-fine (used c) (lowered raw) (asciiLower k) (c .method)))
+  undo-sound k raw =
+      go (isSound c) (ltb letterLimit (length raw)) (inAlphabet k) (allLetters raw)
+      (found-sound u (undo-fine (used c) (lowered raw) (asciiLower k) (c .method)))
     where
       u : Undoing
       u = toUndo (c .method) (used c) (lowered raw) (asciiLower k)

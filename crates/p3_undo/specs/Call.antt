@@ -5,6 +5,7 @@ use mathlib.Core.List.{List}
 use lib.Dec.{eqb, ltb}
 use lib.ListN.{length}
 use Rattle.p0_choice.specs.Choice.{pick}
+use Rattle.p0_refusals.specs.Limits.{letterLimit}
 use Rattle.p0_refusals.specs.Refusals.{numberOf}
 use Rattle.p0_refusals.specs.declared.Refusal.{Refusal}
 use Rattle.p0_refusals.specs.declared.Refusal.the-variants.{Foreign, NoUndo, Long, Unsound}
@@ -19,10 +20,6 @@ use Rattle.p3_undo.specs.declared.TelexUndo.the-variants.{AppendTrigger,
 use Rattle.p3_undo.specs.declared.Undoing.{Undoing}
 use Rattle.p3_undo.specs.declared.Undoing.the-variants.{Nothing, Tone, Mark}
 use Rattle.p3_undo.specs.declared.Undone.{Undone}
-
--- "raw key strings .. at most 64"
-abbrev pub rawLimit : ℕ
-rawLimit = 64
 
 -- the refusal's number, 0 for none
 abbrev pub refusalOf : TelexUndo → ℕ
@@ -47,7 +44,7 @@ undoFound c (Mark i r) = record { comp = holding c (undone (used c) (Mark i r));
 unfoldable pub undoTelex : Composition → ℕ → List ℕ → Undone
 undoTelex c trigger raw =
     pick (isSound c)
-    (pick (ltb rawLimit (length raw)) (refused c Long)
+    (pick (ltb letterLimit (length raw)) (refused c Long)
     (pick (inAlphabet trigger)
     (pick (allLetters raw) (undoFound c (toUndo (c .method) (used c) (lowered raw) (asciiLower trigger))) (refused c Foreign))
     (refused c Foreign)))

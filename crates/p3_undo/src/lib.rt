@@ -12,6 +12,7 @@ ghost use Rattle.p3_cells.specs.Cells.{limit, isSound, used};
 ghost use Rattle.p3_undo.specs.Raw.{lowered, endsIn, pairAt, lastEnd, anyPlain, active};
 ghost use Rattle.p3_undo.specs.Undo.{lastWith, hasTone, hasMark, ruleAt, byRules, toneAt, toUndo, toneless as tonelessOf, restored as restoredOf};
 ghost use Rattle.p3_undo.specs.Call.{behaviour as behaviourOf, refused, undoFound, undoTelex};
+use p0_refusals::LETTERS;
 use p0_refusals::Refusal;
 use p1_letters as letters;
 use p2_input_method as input_method;
@@ -21,9 +22,6 @@ use p3_cells as cells;
 use p3_cells::Cell;
 use p3_cells::Composition;
 use p3_cells::Place;
-
-// The longest raw string.
-pub const RAW: usize = 64;
 
 // What becomes of the trigger, or why nothing was undone.
 pub enum TelexUndo {
@@ -318,7 +316,7 @@ pub fn undo_telex_transform(c: Composition, trigger: u32, raw: &[u32]) -> Undone
     if !cells::sound(c) {
         return refuse(c, Refusal::Unsound);
     }
-    if RAW < raw.len() {
+    if LETTERS < raw.len() {
         return refuse(c, Refusal::Long);
     }
     if !letters::in_alphabet(trigger) {

@@ -5,6 +5,7 @@ use mathlib.Core.Bool.{Bool, true}
 use native.Mathlib.Omega.{arith}
 use lib.ListN.{length, take, drop}
 use borrow.Author.Tests.{le-ltb}
+use Rattle.p0_refusals.specs.Limits.{letterLimit}
 use Rattle.p4_rows.specs.Rows.{Word}
 use Rattle.p4_spelling.specs.declared.Places.{Places}
 use Rattle.p4_spelling.specs.declared.Cut.the-variants.{At}
@@ -23,9 +24,9 @@ unfolding vowelsEnd
 run-long w = let e : onsetEnd w + vowelRun (drop (onsetEnd w) w) - onsetEnd w ≡ vowelRun (drop (onsetEnd w) w) = omega arith in rw e
 
 -- an accepted word is permitted but for its length
-pub says-yes : (w : Word) (r : Bool) → length w ≤ 64 → r ≡ verdict w → r ≡ true → Yes ≡ verdictAnswer w
+pub says-yes : (w : Word) (r : Bool) → length w ≤ letterLimit → r ≡ verdict w → r ≡ true → Yes ≡ verdictAnswer w
 unfolding verdictAnswer permitted
-says-yes w r l e t = let v : verdict w ≡ true = sym e ∙ t in rw (le-ltb 64 (length w) l, accepted-letters w v, v)
+says-yes w r l e t = let v : verdict w ≡ true = sym e ∙ t in rw (le-ltb letterLimit (length w) l, accepted-letters w v, v)
 
 module _ (w : Word) where
   pub onset-at : onsetPart w (placesOf w) ≡ onsetOf w

@@ -1,4 +1,4 @@
--- The three parts of a word join to it, and those of a word that fits are parts of the rows; so it has at most 8 letters.
+-- The three parts of a word join to it, and those of a word that fits are parts of the rows; so it is no longer than the longest.
 use Prim.Native.Nat.{ℕ, suc, _≤_}
 use mathlib.Core.Path.{_≡_, refl, sym, ap, _∙_, subst}
 use mathlib.Core.Bool.{Bool, true, false}
@@ -15,7 +15,7 @@ use Rattle.p4_rows.specs.Lookup.{inList, rowsOf, listed, isEmpty}
 use Rattle.p4_rows.proofs.Words.{both-of, each-in}
 use Rattle.p4_rows.proofs.Listed.{joined, parts, listed-in, empty-in}
 use Rattle.p4_spelling.specs.Cut.{beforeVowel, vowelRun, isGlue, startsGlued, onsetEnd, vowelsEnd, onsetOf, vowelsOf, codaOf}
-use Rattle.p4_spelling.specs.Verdict.{listedIfAny, onsetFits, codaFits, partsFit, fits}
+use Rattle.p4_spelling.specs.Verdict.{listedIfAny, onsetFits, codaFits, partsFit, fits, longestLength}
 
 pub coda-after : (w : Word) → codaOf w ≡ drop (vowelRun (drop (onsetEnd w) w)) (drop (onsetEnd w) w)
 unfolding codaOf vowelsEnd
@@ -133,7 +133,7 @@ module _ (u : Word) where
   coda-short t = leb→le (length u) 2 (each-in (atMost 2) (parts codaRows) tt u t)
 
 -- "The longest has 8 letters."
-pub fits-short : (w : Word) → T (fits w) → length w ≤ 8
+pub fits-short : (w : Word) → T (fits w) → length w ≤ longestLength
 fits-short w t =
     let p : Parts w = fits-parts w t in
     omega (

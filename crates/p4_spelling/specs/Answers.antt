@@ -4,6 +4,7 @@ use mathlib.Core.List.{[]}
 use lib.Dec.{ltb}
 use lib.ListN.{length, take, drop}
 use Rattle.p0_choice.specs.Choice.{pick}
+use Rattle.p0_refusals.specs.Limits.{letterLimit}
 use Rattle.p0_refusals.specs.Refusals as Refusals
 use Rattle.p0_refusals.specs.declared.Refusal.{Refusal}
 use Rattle.p0_refusals.specs.declared.Refusal.the-variants.{Foreign, Long}
@@ -29,7 +30,7 @@ verdictNumber (Verdicts.Refused r) = Refusals.numberOf r
 
 -- "Words .. : at most 64": over the limit 6, a code point outside the alphabet 1
 unfoldable pub permitted : {A : Type 0} → Word → (Refusal → A) → A → A
-permitted w refuse answer = pick (ltb 64 (length w)) (refuse Long) (pick (allLetters w) answer (refuse Foreign))
+permitted w refuse answer = pick (ltb letterLimit (length w)) (refuse Long) (pick (allLetters w) answer (refuse Foreign))
 
 -- where onset and vowels end
 unfoldable pub placesOf : Word → Places

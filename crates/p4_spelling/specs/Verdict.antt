@@ -53,3 +53,7 @@ toneless w = map toneOff w
 -- "Verdict: lower-case; refuse f j w z; take tones off; cut."
 unfoldable pub verdict : Word → Bool
 verdict w = pick (hasForeign (lowered w)) false (fits (toneless (lowered w)))
+
+-- "The longest has 8 letters."
+abbrev pub longestLength : ℕ
+longestLength = 8

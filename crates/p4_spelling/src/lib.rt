@@ -1,5 +1,6 @@
 // Cut and verdict (document 01, port order 4: `spelling.rs`). A word is cut into onset, vowels and coda, and judged by
 // the rows of `p4_rows`.
+use p0_refusals::LETTERS;
 use p0_refusals::Refusal;
 use p1_letters as letters;
 use p4_rows as rows;
@@ -16,6 +17,9 @@ ghost use Rattle.p4_rows.specs.Keys.{shown};
 ghost use Rattle.p4_spelling.specs.Cut.{beforeVowel, vowelRun, isGlue, onsetEnd};
 ghost use Rattle.p4_spelling.specs.Verdict.{codaFits, fits as fitting, verdict};
 ghost use Rattle.p4_spelling.specs.Answers.{placesOf, onsetPart, vowelsPart, codaPart, cutAnswer, verdictAnswer};
+
+// The letters of the longest accepted word; `longestLength` says the same.
+pub const LONGEST: usize = 8;
 
 // Where a word is cut: its onset ends before `onset`, its vowels end before `vowels`.
 pub struct Places {
@@ -143,7 +147,7 @@ pub fn coda_part(word: &[u32], at: Places) -> &[u32]
 pub fn partition(word: &[u32]) -> Cut
     ensures { λ r. ⌜ r ≡ cutAnswer (now (word .entry)) ⌝ }
 {
-    if 64 < word.len() {
+    if LETTERS < word.len() {
         return Cut::Refused(Refusal::Long);
     }
     if !letters::all_letters(word) {
@@ -194,16 +198,16 @@ fn fits(word: &[u32]) -> bool
     coda_fits(vowels, &word[b..])
 }
 
-// Whether a word is accepted. No accepted word has over 8 letters; and of f j w z, which it may not have, no row has one
+// Whether a word is accepted. None that is longer than LONGEST is; and of f j w z, which it may not have, no row has one
 // but the onset z.
 pub fn accepts(word: &[u32]) -> bool
     ensures { λ r. ⌜ r ≡ verdict (now (word .entry)) ⌝ }
 {
     let n = word.len();
-    if 8 < n {
+    if LONGEST < n {
         return false;
     }
-    let mut plain = [0u32; 8];
+    let mut plain = [0u32; LONGEST];
     let mut i: usize = 0;
     while i < n {
         plain[i] = letters::strip_tone(letters::lower(word[i]));
@@ -219,7 +223,7 @@ pub fn accepts(word: &[u32]) -> bool
 pub fn is_valid_vietnamese_syllable(word: &[u32]) -> Verdict
     ensures { λ r. ⌜ r ≡ verdictAnswer (now (word .entry)) ⌝ }
 {
-    if 64 < word.len() {
+    if LETTERS < word.len() {
         return Verdict::Refused(Refusal::Long);
     }
     if accepts(word) {

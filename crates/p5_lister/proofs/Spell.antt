@@ -10,7 +10,9 @@ use lib.Seq.{take-suc-set}
 use Rattle.p5_trie.specs.Trie.{Trie, cell, size, nth}
 use Rattle.p5_trie.proofs.Tests.{depth}
 use Rattle.p5_trie.proofs.Words.{nth-end, nth-into, nth-past, size-cell, size-none}
-use Rattle.p5_listing.specs.Cells.{trieAt, listing}
+use Rattle.p5_listing.specs.Cells.{cellCount, rootCell, trieAt, listing}
+use Rattle.p5_listing.specs.Counts.{wordCount}
+use Rattle.p4_spelling.specs.Verdict.{longestLength}
 use Rattle.p5_listing.proofs.Cells.{letterAt, stopAt, downAt, nextAt, weightAt, endsAt, Right, is-right, root, at-none, opens}
 use Rattle.p5_listing.proofs.Computed.{size-listing, depth-listing}
 
@@ -19,7 +21,7 @@ unfolding depth
 depth-cell c a d s = refl
 
 -- what a cell's trie is, by the tables
-module _ (e : ℕ) (p : 0 < e) (h : e < 211) where
+module _ (e : ℕ) (p : 0 < e) (h : e < cellCount) where
   size-at : size (trieAt e) ≡ weightAt e + size (trieAt (nextAt e))
   size-at = rw (opens e p h) (omega (arith, size-cell (letterAt e) (endsAt e) (trieAt (downAt e)) (trieAt (nextAt e)), is-right e p h .weight-is))
 
@@ -46,13 +48,13 @@ module _ (e : ℕ) (p : 0 < e) (h : e < 211) where
 
 -- len letters are written, and the rest of the word is number k of cell e's trie
 pub record Spell (n : ℕ) (out : List ℕ) (len e k : ℕ) : Type 0 where
-  pub small : e < 211
+  pub small : e < cellCount
   pub below : k < size (trieAt e)
-  pub room : len + depth (trieAt e) ≤ 8
-  pub eight : length out ≡ 8
+  pub room : len + depth (trieAt e) ≤ longestLength
+  pub eight : length out ≡ longestLength
   pub is : take len out ++ nth (trieAt e) k ≡ nth listing n
 
-pub begin : (n : ℕ) (out : List ℕ) → length out ≡ 8 → n < 5963 → Spell n out 0 210 n
+pub begin : (n : ℕ) (out : List ℕ) → length out ≡ longestLength → n < wordCount → Spell n out 0 rootCell n
 begin n out l h = record {
   small = omega arith;
   below = omega (arith, ap size root, size-listing);
@@ -68,10 +70,10 @@ module _ {n : ℕ} {out : List ℕ} {len e k : ℕ} (q : Spell n out len e k) wh
   pub never : e ≡ 0 → ⊥
   never z = omega (arith, q .below, ap (λ (x : ℕ). size (trieAt x)) z, ap size at-none, size-none)
 
-  pub has-room : 0 < e → len < 8
+  pub has-room : 0 < e → len < longestLength
   has-room p = omega (arith, q .room, depth-at e p (q .small))
 
-  written : (x : ℕ) → len < 8 → take (len + 1) (set out len x) ≡ take len out ++ (x ∷ [])
+  written : (x : ℕ) → len < longestLength → take (len + 1) (set out len x) ≡ take len out ++ (x ∷ [])
   written x l = rw (add-one len) (take-suc-set out len x (omega (arith, q .eight)))
 
   pub ended : (x a : ℕ) → 0 < e → x ≡ letterAt e → a ≡ stopAt e → k < a → take (len + 1) (set out len x) ≡ nth listing n

@@ -8,12 +8,13 @@ use lib.ListN.{length, drop, getD}
 use lib.Seq.{drop-cons, drop-length}
 use Rattle.p5_trie.specs.Trie.{Trie, upTo}
 use Rattle.p5_trie.proofs.Words.{upTo-none, upTo-empty, upTo-le, upTo-past, upTo-into, upTo-stop}
-use Rattle.p5_listing.specs.Cells.{trieAt, listing}
+use Rattle.p5_listing.specs.Cells.{cellCount, rootCell, trieAt, listing}
+use Rattle.p5_listing.specs.Counts.{wordCount}
 use Rattle.p5_listing.proofs.Cells.{letterAt, stopAt, downAt, nextAt, weightAt, endsAt, is-right, root, at-none, opens}
 use Rattle.p5_listing.proofs.Computed.{size-listing}
 
 -- one step at cell e
-module _ (e : ℕ) (p : 0 < e) (h : e < 211) where
+module _ (e : ℕ) (p : 0 < e) (h : e < cellCount) where
   into : (x : ℕ) (w : List ℕ) → letterAt e ≡ x → upTo (trieAt e) (x ∷ w) ≡ stopAt e + upTo (trieAt (downAt e)) w
   into x w l = rw (opens e p h) (upTo-into (letterAt e) (endsAt e) (trieAt (downAt e)) (trieAt (nextAt e)) x w l ∙ ap (λ (n : ℕ). n + upTo (trieAt (downAt e)) w) (sym (is-right e p h .stop-is)))
 
@@ -25,15 +26,15 @@ module _ (e : ℕ) (p : 0 < e) (h : e < 211) where
 
 -- r words are passed, and the rest of the count lies in cell e's trie, for what is left of w
 pub record Walk (w : List ℕ) (e r i : ℕ) : Type 0 where
-  pub small : e < 211
+  pub small : e < cellCount
   pub within : i ≤ length w
   pub sum : r + upTo (trieAt e) (drop i w) ≡ upTo listing w
 
-pub begin : (w : List ℕ) → Walk w 210 0 0
+pub begin : (w : List ℕ) → Walk w rootCell 0 0
 begin w = record { small = omega arith; within = omega arith; sum = omega (arith, ap (λ (t : Trie). upTo t w) root) }
 
 module _ {w : List ℕ} {e r i : ℕ} (k : Walk w e r i) where
-  pub bound : r ≤ 5963
+  pub bound : r ≤ wordCount
   bound = omega (arith, k .sum, upTo-le listing w, size-listing)
 
   pub done : e ≡ 0 → r ≡ upTo listing w
@@ -66,8 +67,8 @@ module _ {w : List ℕ} {e r i : ℕ} (k : Walk w e r i) where
 
 -- the sums fit, since the next walk's sum is bounded too
 module _ {w : List ℕ} {e r i : ℕ} (k : Walk w e r i) (p : 0 < e) (l : i < length w) where
-  pub room-down : (s : ℕ) → letterAt e ≡ getD w i 0 → s ≡ stopAt e → r + s ≤ 5963
+  pub room-down : (s : ℕ) → letterAt e ≡ getD w i 0 → s ≡ stopAt e → r + s ≤ wordCount
   room-down s h es = bound (went-down k s (downAt e) p l h es refl)
 
-  pub room-on : (s : ℕ) → letterAt e < getD w i 0 → s ≡ weightAt e → r + s ≤ 5963
+  pub room-on : (s : ℕ) → letterAt e < getD w i 0 → s ≡ weightAt e → r + s ≤ wordCount
   room-on s h es = bound (went-on k s (nextAt e) p l h es refl)

@@ -1,7 +1,12 @@
 // The table of cells that specs/Cells.antt of p5_listing defines; written by tools/cells.py.
 
+// how many cells there are, cell 0 among them; the last is the root
+const CELLS: usize = 211;
+
+pub const ROOT: usize = CELLS - 1;
+
 // the letter of each cell
-pub const LETTERS: [u16; 211] = [
+pub const LETTERS: [u16; CELLS] = [
     0,
     117,
     116,
@@ -216,7 +221,7 @@ pub const LETTERS: [u16; 211] = [
 ];
 
 // 1 where a word ends with the cell's letter
-pub const STOPS: [u8; 211] = [
+pub const STOPS: [u8; CELLS] = [
     0,
     1,
     1,
@@ -431,7 +436,7 @@ pub const STOPS: [u8; 211] = [
 ];
 
 // the first cell below
-pub const DOWNS: [u8; 211] = [
+pub const DOWNS: [u8; CELLS] = [
     0,
     0,
     0,
@@ -646,7 +651,7 @@ pub const DOWNS: [u8; 211] = [
 ];
 
 // the next cell beside
-pub const NEXTS: [u8; 211] = [
+pub const NEXTS: [u8; CELLS] = [
     0,
     0,
     1,
@@ -861,7 +866,7 @@ pub const NEXTS: [u8; 211] = [
 ];
 
 // how many words go through the cell
-pub const WEIGHTS: [u16; 211] = [
+pub const WEIGHTS: [u16; CELLS] = [
     0,
     1,
     1,

@@ -3,8 +3,10 @@
 mod cells;
 
 use p0_refusals::Answer;
+use p0_refusals::LETTERS;
 use p0_refusals::Refusal;
 use p1_letters as letters;
+use p4_spelling::LONGEST;
 ghost use mathlib.Core.Path.{_≡_};
 ghost use mathlib.Core.List.{_++_};
 ghost use Prim.Native.Nat.{_≤_, _<_};
@@ -13,16 +15,18 @@ ghost use Rattle.p5_trie.specs.Trie.{nth, upTo};
 ghost use Rattle.p5_trie.specs.Numbering.{Many};
 ghost use Rattle.p5_listing.specs.Listed.{Listed};
 ghost use Rattle.p5_listing.specs.Cells.{listing};
+ghost use Rattle.p4_spelling.specs.Verdict.{longestLength};
+ghost use Rattle.p5_listing.specs.Counts.{wordCount};
 ghost use Rattle.p0_refusals.specs.Answers.{Outcome, answer, output};
 ghost use Rattle.p5_lister.specs.Meaning.{NumberMeans, NextMeans};
 
-// How many words are listed.
+// How many words are listed; `wordCount` says the same.
 const TOTAL: usize = 5963;
 
-// A word of at most eight letters: the first `len`.
+// A listed word: the first `len` letters.
 struct Spelled {
     len: usize,
-    letters: [u32; 8],
+    letters: [u32; LONGEST],
 }
 
 fn wide8(x: u8) -> usize
@@ -52,7 +56,7 @@ fn up_to(word: &[u32]) -> usize
     let downs = cells::DOWNS;
     let nexts = cells::NEXTS;
     let weights = cells::WEIGHTS;
-    let mut cell: usize = 210;
+    let mut cell: usize = cells::ROOT;
     let mut count: usize = 0;
     let mut i: usize = 0;
     while cell != 0 {
@@ -78,17 +82,17 @@ fn up_to(word: &[u32]) -> usize
 
 // The word of number n.
 fn word_at(n: usize) -> Spelled
-    requires { ⌜ n < 5963 ⌝ }
-    ensures { λ r. ⌜ (r .len ≤ 8) × (take (r .len) (r .letters) ≡ nth listing n) ⌝ }
+    requires { ⌜ n < wordCount ⌝ }
+    ensures { λ r. ⌜ (r .len ≤ longestLength) × (take (r .len) (r .letters) ≡ nth listing n) ⌝ }
 {
     let letters = cells::LETTERS;
     let stops = cells::STOPS;
     let downs = cells::DOWNS;
     let nexts = cells::NEXTS;
     let weights = cells::WEIGHTS;
-    let mut out = [0u32; 8];
+    let mut out = [0u32; LONGEST];
     let mut len: usize = 0;
-    let mut cell: usize = 210;
+    let mut cell: usize = cells::ROOT;
     let mut left = n;
     while cell != 0 {
         let through = wide16(weights[cell]);
@@ -110,8 +114,8 @@ fn word_at(n: usize) -> Spelled
 }
 
 // Writes the first n letters to the start of the output.
-fn put(letters: [u32; 8], n: usize, out: &mut [u32])
-    requires { ⌜ (n ≤ 8) × (n ≤ length (now out)) ⌝ }
+fn put(letters: [u32; LONGEST], n: usize, out: &mut [u32])
+    requires { ⌜ (n ≤ longestLength) × (n ≤ length (now out)) ⌝ }
     ensures { λ r. ⌜ now (out .exit) ≡ take n letters ++ drop n (now (out .entry)) ⌝ }
 {
     let mut i: usize = 0;
@@ -123,7 +127,7 @@ fn put(letters: [u32; 8], n: usize, out: &mut [u32])
 
 // How many words are listed: the numbers below this name them.
 pub fn total() -> usize
-    ensures { λ r. ⌜ (r ≡ 5963) × Many Listed r ⌝ }
+    ensures { λ r. ⌜ (r ≡ wordCount) × Many Listed r ⌝ }
 {
     TOTAL
 }
@@ -151,7 +155,7 @@ pub fn next_word(word: &[u32], out: &mut [u32]) -> Answer
     ensures { λ r. ⌜ ((u : Outcome) × NextMeans Listed (now (word .entry)) u
         × (r ≡ answer u (length (now (out .entry)))) × (now (out .exit) ≡ output u (now (out .entry)))) ⌝ }
 {
-    if 64 < word.len() {
+    if LETTERS < word.len() {
         return Answer::Refused(Refusal::Long);
     }
     if !letters::all_letters(word) {

@@ -12,7 +12,7 @@ use Rattle.p1_letters.specs.Alphabet.{lower, isAsciiCapital, smallBy32, smallBy
 use Rattle.p1_letters.specs.Tones.{toneOff, offIn, toneRows}
 use Rattle.p5_trie.specs.Trie.{Trie, none, cell, one, size}
 use Rattle.p5_trie.proofs.Words.{Letters}
-use Rattle.p5_listing.specs.Cells.{letters, stops, downs, nexts, weights, grow, trieAt, listing}
+use Rattle.p5_listing.specs.Cells.{cellCount, rootCell, letters, stops, downs, nexts, weights, grow, trieAt, listing}
 use Rattle.p4_spelling.proofs.Letters.{plainLetter}
 
 abbrev pub letterAt : ℕ → ℕ
@@ -41,9 +41,9 @@ right (suc e) =
     && ((eqb (stopAt (suc e)) (one (endsAt (suc e))) && eqb (weightAt (suc e)) (one (endsAt (suc e)) + size (trieAt (downAt (suc e)))))
     && eqb (plainLetter (letterAt (suc e))) (letterAt (suc e)))
 
-all-right : (e : ℕ) → e < 211 → right e ≡ true
+all-right : (e : ℕ) → e < cellCount → right e ≡ true
 unfolding right size trieAt grow letters stops downs nexts weights plainLetter word lower isAsciiCapital smallBy32 smallBy1 smallHigh smallNext toneOff offIn toneRows
-all-right e h = each-count right 211 0 tt e (omega arith) h
+all-right e h = each-count right cellCount 0 tt e (omega arith) h
 
 pub record Right (e : ℕ) : Type 0 where
   pub down-falls : downAt e < e
@@ -52,7 +52,7 @@ pub record Right (e : ℕ) : Type 0 where
   pub weight-is : weightAt e ≡ one (endsAt e) + size (trieAt (downAt e))
   pub letter-plain : T (eqb (plainLetter (letterAt e)) (letterAt e))
 
-pub is-right : (e : ℕ) → 0 < e → e < 211 → Right e
+pub is-right : (e : ℕ) → 0 < e → e < cellCount → Right e
 unfolding right
 is-right zero p h = absurd (omega arith)
 is-right (suc e) p h =
@@ -75,7 +75,7 @@ is-right (suc e) p h =
     }
 
 -- levels past a cell's own number add nothing
-stable : (k e : ℕ) → e ≤ k → e < 211 → grow (suc k) e ≡ grow k e
+stable : (k e : ℕ) → e ≤ k → e < cellCount → grow (suc k) e ≡ grow k e
 unfolding grow
 stable zero zero h l = refl
 stable zero (suc e) h l = absurd (omega arith)
@@ -91,7 +91,7 @@ unfolding grow
 grown k e = refl
 
 -- the letters of the words are their own lower-case toneless forms
-grow-plain : (k e : ℕ) → e < 211 → Letters (λ (x : ℕ). eqb (plainLetter x) x) (grow k e)
+grow-plain : (k e : ℕ) → e < cellCount → Letters (λ (x : ℕ). eqb (plainLetter x) x) (grow k e)
 unfolding grow
 grow-plain zero e h = tt
 grow-plain (suc k) zero h = tt
@@ -101,9 +101,9 @@ grow-plain (suc k) (suc e) h =
 
 pub listing-plain : Letters (λ (x : ℕ). eqb (plainLetter x) x) listing
 unfolding listing trieAt
-listing-plain = grow-plain 211 210 (omega arith)
+listing-plain = grow-plain cellCount rootCell (omega arith)
 
-pub root : trieAt 210 ≡ listing
+pub root : trieAt rootCell ≡ listing
 unfolding listing
 root = refl
 
@@ -111,7 +111,7 @@ pub at-none : trieAt 0 ≡ none
 unfolding trieAt grow
 at-none = refl
 
-pub opens : (e : ℕ) → 0 < e → e < 211 → trieAt e ≡ cell (letterAt e) (endsAt e) (trieAt (downAt e)) (trieAt (nextAt e))
+pub opens : (e : ℕ) → 0 < e → e < cellCount → trieAt e ≡ cell (letterAt e) (endsAt e) (trieAt (downAt e)) (trieAt (nextAt e))
 unfolding trieAt
 opens zero p h = absurd (omega arith)
-opens (suc e) p h = sym (stable 211 (suc e) (omega arith) h) ∙ grown 211 e
+opens (suc e) p h = sym (stable cellCount (suc e) (omega arith) h) ∙ grown cellCount e

@@ -8,17 +8,19 @@ use Rattle.p0_choice.specs.Text.{word, words, wordsFrom}
 use Rattle.p1_letters.specs.Vowels.{vowels}
 use Rattle.p4_rows.specs.Rows.{Word, onsetRows, vowelRows, codaRows, onsetToVowels, vowelsToCoda}
 use Rattle.p4_rows.specs.Lookup.{goTogether, allows, allowsAny}
+use Rattle.p4_spelling.specs.Verdict.{longestLength}
 use Rattle.p5_trie.specs.Trie.{Trie, size}
 use Rattle.p5_trie.proofs.Tests.{every, isAbove, isSorted, depth}
 use Rattle.p5_listing.specs.Cells.{letters, stops, downs, nexts, grow, trieAt, listing}
+use Rattle.p5_listing.specs.Counts.{wordCount}
 use Rattle.p5_listing.proofs.Quick.{quickAmong, quickSame, quickIn, quickRows, quickBefore, quickRun, quickGlued, quickPairs, quickShape, quickEnd, quickParted, quickRest, quickFrom, quickFits, quickForeign, quickCore, quick}
 
 -- "By our count 5,963 toneless words pass"
-pub size-listing : size listing ≡ 5963
+pub size-listing : size listing ≡ wordCount
 unfolding size listing trieAt grow letters stops downs nexts
 size-listing = refl
 
-pub depth-listing : depth listing ≡ 8
+pub depth-listing : depth listing ≡ longestLength
 unfolding depth listing trieAt grow letters stops downs nexts
 depth-listing = refl
 

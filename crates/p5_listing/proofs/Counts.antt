@@ -15,7 +15,7 @@ use Rattle.p4_rows.specs.Rows.{Word}
 use Rattle.p4_rows.specs.Lookup.{isEmpty}
 use Rattle.p4_rows.proofs.Words.{each-in}
 use Rattle.p4_spelling.specs.Cut.{beforeVowel, vowelRun, isGlue, startsGlued, onsetEnd, onsetOf, vowelsOf}
-use Rattle.p4_spelling.specs.Verdict.{verdict}
+use Rattle.p4_spelling.specs.Verdict.{verdict, longestLength}
 use Rattle.p4_spelling.proofs.Folding.{too-long}
 use Rattle.p5_trie.specs.Trie.{Trie, size, nth}
 use Rattle.p5_trie.proofs.Tests.{holds}
@@ -163,13 +163,13 @@ longest-held : T (holds listing longest)
 unfolding longest holds listing trieAt grow letters stops downs nexts word
 longest-held = tt
 
-eight-letters : length longest ≡ 8
+eight-letters : length longest ≡ longestLength
 unfolding longest word
 eight-letters = refl
 
-none-longer : (u : Word) → Listed u → length u ≤ 8
+none-longer : (u : Word) → Listed u → length u ≤ longestLength
 none-longer u l =
-    ⊎-elim (λ h. absurd (let t : T (verdict u) = l .accepted in rw (← too-long u h) at t)) (λ h. h) (below-or-not 8 (length u))
+    ⊎-elim (λ h. absurd (let t : T (verdict u) = l .accepted in rw (← too-long u h) at t)) (λ h. h) (below-or-not longestLength (length u))
 
 -- "5,963 toneless words pass: 25 bare onsets, 217 without onset, 5,721 with onset and vowels"; "The longest has 8 letters."
 pub counts : Counts

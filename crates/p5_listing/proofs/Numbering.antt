@@ -13,6 +13,7 @@ use Rattle.p5_trie.proofs.Words.{Numbered, sorted, numbered, every-nth, letters
 use Rattle.p5_trie.proofs.Numbering as Tries
 use Rattle.p5_listing.specs.Listed.{plain, Listed}
 use Rattle.p5_listing.specs.Cells.{listing}
+use Rattle.p5_listing.specs.Counts.{wordCount}
 use Rattle.p5_listing.proofs.Plain.{Toneless, core, plain-again, each-plain, plain-toneless, verdict-core, verdict-plain}
 use Rattle.p5_listing.proofs.Quick.{quick, quick-core}
 use Rattle.p5_listing.proofs.Computed.{size-listing, sorted-listing, all-accepted}
@@ -43,14 +44,15 @@ listed-held u l =
 pub lists : Tries.Lists Listed listing
 lists = record { sorted = sorted listing sorted-listing; only = held-listed; all = listed-held }
 
-pub numbering : Numbering Listed (nth listing) 5963
+pub numbering : Numbering Listed (nth listing) wordCount
 numbering = subst (λ (n : ℕ). Numbering Listed (nth listing) n) size-listing (Tries.numbering lists)
 
 -- "A word is accepted exactly if its lower-case toneless form is listed."
 pub accepted-has-number : (w : Word) → T (verdict w) → (n : ℕ) × Named Listed n (plain w)
 accepted-has-number w t =
-    let r : Found (nth listing) 5963 (plain w) = numbering .every (plain w) (record { accepted = rw (verdict-plain w) t; isPlain = plain-again w }) in
-    (r .number, record { order = nth listing; total = 5963; numbers = numbering; small = r .small; is = r .is })
+    let r : Found (nth listing) wordCount (plain w) =
+    numbering .every (plain w) (record { accepted = rw (verdict-plain w) t; isPlain = plain-again w }) in
+    (r .number, record { order = nth listing; total = wordCount; numbers = numbering; small = r .small; is = r .is })
 
 pub number-is-accepted : (w : Word) (n : ℕ) → Named Listed n (plain w) → T (verdict w)
 number-is-accepted w n r =

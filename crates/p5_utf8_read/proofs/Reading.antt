@@ -9,6 +9,7 @@ use lib.Dec.{ltb}
 use lib.ListN.{length}
 use borrow.Author.Tests.{lt-ltb, le-ltb, ltb-false}
 use Rattle.p0_choice.specs.Choice.{pick}
+use Rattle.p0_refusals.specs.Limits.{letterLimit, byteLimit}
 use Rattle.p0_refusals.specs.declared.Refusal.the-variants.{Short, Long}
 use Rattle.p1_letters.specs.Alphabet.{inAlphabet, allLetters}
 use Rattle.p5_utf8.specs.declared.Char.the-variants.{Malformed as NoChar}
@@ -16,10 +17,10 @@ use Rattle.p0_refusals.specs.declared.Answer.the-variants.{Done, Refused}
 use Rattle.p5_utf8.specs.Rfc3629.{isScalar, encode, encodeAll, charOf}
 use Rattle.p0_refusals.specs.Answers.{writes, refuses, refusalOf, answer}
 use Rattle.p0_refusals.proofs.Room.{Fits, enough}
-use Rattle.p5_utf8_write.specs.Write.{letterLimit, writing}
+use Rattle.p5_utf8_write.specs.Write.{writing}
 use Rattle.p5_utf8_write.proofs.Alphabet.{few-bytes}
 use Rattle.p5_utf8_write.proofs.Writing.{written}
-use Rattle.p5_utf8_read.specs.Read.{byteLimit, letters, reading}
+use Rattle.p5_utf8_read.specs.Read.{letters, reading}
 use Rattle.p5_utf8_read.proofs.Exact.{read-written, first-malformed, first-foreign, letters-exactly, letters-fit}
 
 pub long : (s : List ℕ) (m : ℕ) → byteLimit < length s → refusalOf (answer (reading s) m) ≡ 6
@@ -46,20 +47,20 @@ module _ (xs : List ℕ) (m : ℕ) (a : allLetters xs ≡ true) where
     unfolding reading answer
     done l = rw (le-ltb byteLimit (length (encodeAll xs)) h, read-written xs a, le-ltb m (length xs) l) refl
 
--- ---- with 256 letters of room 3 is never the answer
-reading-fits : (s : List ℕ) → Fits 256 (reading s)
+-- ---- with room for as many letters as bytes may be read 3 is never the answer
+reading-fits : (s : List ℕ) → Fits byteLimit (reading s)
 unfolding reading
 reading-fits s = go (ltb byteLimit (length s)) refl
   where
-    go : (t : Bool) → ltb byteLimit (length s) ≡ t → Fits 256 (pick t (refuses Long) (letters s))
+    go : (t : Bool) → ltb byteLimit (length s) ≡ t → Fits byteLimit (pick t (refuses Long) (letters s))
     go true p = λ e. let z : _≡_ {A = ℕ} 0 1 = cc in omega arith
-    go false p = letters-fit s 256 (omega (arith, ltb-false byteLimit (length s) p))
+    go false p = letters-fit s byteLimit (omega (arith, ltb-false byteLimit (length s) p))
 
-pub read-room : (s : List ℕ) (n : ℕ) → 256 ≤ n → answer (reading s) n ≡ Refused Short → ⊥
-read-room s n h = enough (reading s) 256 n (reading-fits s) h
+pub read-room : (s : List ℕ) (n : ℕ) → byteLimit ≤ n → answer (reading s) n ≡ Refused Short → ⊥
+read-room s n h = enough (reading s) byteLimit n (reading-fits s) h
 
 -- ---- reading and writing
--- bytes are read exactly as the letters whose encoding they are, however many, if they are at most 256
+-- bytes are read exactly as the letters whose encoding they are, if they are within the limit
 pub read-exactly : (s xs : List ℕ) → reading s ≡ writes xs ↔ ((length s ≤ byteLimit) × (encodeAll xs ≡ s) × (allLetters xs ≡ true))
 unfolding reading
 read-exactly s xs =
@@ -70,12 +71,12 @@ read-exactly s xs =
     go true p q = let z : _≡_ {A = ℕ} 0 1 = cc in absurd (omega arith)
     go false p q = let k = letters-exactly s xs .0 q in (ltb-false byteLimit (length s) p, k .0, k .1)
 
--- bytes that are read as at most 64 letters are what these letters are written as
+-- bytes that are read as no more letters than may be written are what these letters are written as
 pub written-again : (s xs : List ℕ) → reading s ≡ writes xs → length xs ≤ letterLimit → writing xs ≡ writes s
 unfolding writing
 written-again s xs e h = let k = read-exactly s xs .0 e in rw (le-ltb letterLimit (length xs) h, k .2, k .1) refl
 
--- bytes that were written are read back as the letters: 64 letters have at most 192 bytes
+-- bytes that were written are read back as the letters: so many bytes may be read
 pub read-back : (xs bs : List ℕ) → writing xs ≡ writes bs → reading bs ≡ writes xs
 unfolding reading
 read-back xs bs e =

@@ -13,6 +13,7 @@ use lib.ListN.{length, getD, take, drop, set, length-drop, length-append, drop-o
 use lib.Seq.{take-all, drop-drop, getD-drop, drop-append-seam}
 use borrow.Author.Tests.{ltb-true, ltb-false}
 use Rattle.p0_choice.specs.Choice.{pick}
+use Rattle.p0_refusals.specs.Limits.{byteLimit}
 use Rattle.p0_refusals.specs.declared.Refusal.the-variants.{Long}
 use Rattle.p1_letters.specs.Alphabet.{allLetters}
 use Rattle.p5_utf8.specs.Rfc3629.{encode, encodeAll, bits2, bits3}
@@ -20,7 +21,7 @@ use Rattle.p0_refusals.specs.Answers.{writes, refuses, onto}
 use Rattle.p5_utf8.proofs.Encode.{many-bytes}
 use Rattle.p5_utf8_write.proofs.Alphabet.{letter-low, all-at}
 use Rattle.p5_utf8_write.proofs.Measuring.{rest}
-use Rattle.p5_utf8_read.specs.Read.{byteLimit, letters, reading}
+use Rattle.p5_utf8_read.specs.Read.{letters, reading}
 use Rattle.p5_utf8_read.proofs.Exact.{letters-exactly}
 use Rattle.p5_utf8_read.proofs.FirstByte.{first-1, first-2, first-3}
 

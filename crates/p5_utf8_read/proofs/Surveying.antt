@@ -8,6 +8,7 @@ use mir.Syntax.{w64}
 use mir.Val.{Fits}
 use lib.ListN.{length, getD, drop}
 use borrow.Author.Tests.{lt-ltb, le-ltb, not-true, not-false}
+use Rattle.p0_refusals.specs.Limits.{byteLimit}
 use Rattle.p0_refusals.specs.declared.Refusal.the-variants.{Foreign, Long, Malformed}
 use Rattle.p1_letters.specs.Alphabet.{inAlphabet}
 use Rattle.p1_letters.proofs.Alphabet.{alphabet-ascii}
@@ -19,7 +20,7 @@ use Rattle.p5_utf8.specs.Rfc3629.{charAt}
 use Rattle.p0_refusals.specs.Answers.{Outcome, writes, refuses, counted}
 use Rattle.p5_utf8.proofs.CharAt.{at-ascii}
 use Rattle.p5_utf8.proofs.Exact.{fits-at}
-use Rattle.p5_utf8_read.specs.Read.{byteLimit, before, letters, reading}
+use Rattle.p5_utf8_read.specs.Read.{before, letters, reading}
 use Rattle.p5_utf8_read.proofs.Letters.{at-end, at-malformed, at-char}
 
 -- k letters, and then an outcome

@@ -4,16 +4,13 @@ use mathlib.Core.List.{List, [], _∷_}
 use lib.Dec.{ltb}
 use lib.ListN.{length}
 use Rattle.p0_choice.specs.Choice.{pick}
+use Rattle.p0_refusals.specs.Limits.{byteLimit}
 use Rattle.p0_refusals.specs.declared.Refusal.the-variants.{Foreign, Long, Malformed}
 use Rattle.p1_letters.specs.Alphabet.{inAlphabet}
 use Rattle.p5_utf8.specs.declared.Char.{Char}
 use Rattle.p5_utf8.specs.declared.Char.the-variants.{Malformed as NoChar, Scalar}
 use Rattle.p5_utf8.specs.Rfc3629.{charOf}
 use Rattle.p0_refusals.specs.Answers.{Outcome, writes, refuses}
-
--- "A program line or other bytes to be read as UTF-8: at most 256."
-abbrev pub byteLimit : ℕ
-byteLimit = 256
 
 unfoldable pub widthOf : Char → ℕ
 widthOf NoChar = 0

@@ -7,13 +7,11 @@ ghost use Rattle.p0_refusals.specs.Answers.{writes, content, counted, answer, o
 ghost use Rattle.p5_utf8.specs.Rfc3629.{bits2, bits3};
 ghost use Rattle.p5_utf8_read.specs.Read.{reading};
 use p0_refusals::Answer;
+use p0_refusals::BYTES;
 use p0_refusals::Refusal;
 use p1_letters as letters;
 use p5_utf8 as utf8;
 use p5_utf8::Char;
-
-// The most bytes that are read; `byteLimit` says the same.
-pub const BYTES: usize = 256;
 
 // A byte as a code point.
 fn wide(a: u8) -> u32
@@ -95,7 +93,7 @@ fn spread(bytes: &[u8], out: &mut [u32])
     }
 }
 
-// Reads at most 256 bytes as letters, written from the start of `out`. Refusals: 6, then 8 or 1 for the first faulty
+// Reads at most BYTES bytes as letters, written from the start of `out`. Refusals: 6, then 8 or 1 for the first faulty
 // character, last 3; `out` then stays as it was.
 pub fn read(bytes: &[u8], out: &mut [u32]) -> Answer
     ensures { λ r. ⌜ r ≡ answer (reading (now (bytes .entry))) (length (now (out .entry))) ⌝ }

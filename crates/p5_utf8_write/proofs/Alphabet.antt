@@ -11,6 +11,7 @@ use Rattle.p0_choice.specs.Choice.{pick}
 use Rattle.p1_letters.specs.Alphabet.{inAlphabet, allLetters}
 use Rattle.p1_letters.proofs.Alphabet.{alphabet-high}
 use Rattle.p5_utf8.specs.Rfc3629.{isScalar, encode, encodeAll}
+use Rattle.p5_utf8_write.specs.Write.{letterBytes}
 use Rattle.p5_utf8.proofs.Encode.{by-row, width-1, width-2, width-3, scalar-low}
 
 -- the last letter is U+1EF9
@@ -24,7 +25,7 @@ letter-low x e = go (ltb x 0x1ea0) refl
 pub letter-scalar : (x : ℕ) → inAlphabet x ≡ true → isScalar x ≡ true
 letter-scalar x e = let h = letter-low x e in scalar-low x (omega arith)
 
-letter-width : (x : ℕ) → inAlphabet x ≡ true → length (encode x) ≤ 3
+letter-width : (x : ℕ) → inAlphabet x ≡ true → length (encode x) ≤ letterBytes
 letter-width x e =
     let m = letter-low x e in
     by-row x _ (λ h. omega (arith, width-1 x h)) (λ l h. omega (arith, width-2 x l h)) (λ l h. omega (arith, width-3 x l h)) (λ l. absurd (omega arith))
@@ -42,8 +43,8 @@ all-at [] i a l = absurd (omega arith)
 all-at (x ∷ xs) zero a l = all-head x xs a .0
 all-at (x ∷ xs) (suc i) a l = all-at xs i (all-head x xs a .1) (omega arith)
 
--- n letters have at most 3n bytes
-pub few-bytes : (xs : List ℕ) → allLetters xs ≡ true → length (encodeAll xs) ≤ 3 * length xs
+-- so many letters have at most so many times the bytes of one
+pub few-bytes : (xs : List ℕ) → allLetters xs ≡ true → length (encodeAll xs) ≤ letterBytes * length xs
 few-bytes [] a = omega arith
 few-bytes (x ∷ xs) a =
     let h = all-head x xs a in

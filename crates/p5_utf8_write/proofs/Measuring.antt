@@ -8,12 +8,13 @@ use native.Mathlib.Numerals.{add-one}
 use lib.ListN.{length, getD, drop, length-append, drop-of-length-le}
 use lib.Seq.{drop-cons}
 use borrow.Author.Tests.{lt-ltb, le-ltb, not-true, not-false}
+use Rattle.p0_refusals.specs.Limits.{letterLimit}
 use Rattle.p0_refusals.specs.declared.Refusal.the-variants.{Foreign, Long}
 use Rattle.p1_letters.specs.Alphabet.{inAlphabet, allLetters}
 use Rattle.p5_utf8.specs.Rfc3629.{encode, encodeAll}
 use Rattle.p0_refusals.specs.Answers.{counted}
 use Rattle.p0_refusals.specs.declared.Answer.the-variants.{Done, Refused}
-use Rattle.p5_utf8_write.specs.Write.{letterLimit, writing}
+use Rattle.p5_utf8_write.specs.Write.{writing}
 
 module _ (xs : List ℕ) (i x : ℕ) (l : i < length xs) (p : x ≡ getD xs i 0) where
   pub rest : drop i xs ≡ x ∷ drop (i + 1) xs

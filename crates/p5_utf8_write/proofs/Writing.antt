@@ -8,6 +8,7 @@ use lib.Dec.{ltb}
 use lib.ListN.{length}
 use borrow.Author.Tests.{lt-ltb, le-ltb, ltb-false}
 use Rattle.p0_choice.specs.Choice.{pick}
+use Rattle.p0_refusals.specs.Limits.{letterLimit}
 use Rattle.p0_refusals.specs.declared.Refusal.the-variants.{Foreign, Short, Long}
 use Rattle.p1_letters.specs.Alphabet.{allLetters}
 use Rattle.p5_utf8.specs.Rfc3629.{encodeAll}
@@ -16,10 +17,10 @@ use Rattle.p0_refusals.specs.declared.Answer.{Answer}
 use Rattle.p0_refusals.specs.declared.Answer.the-variants.{Done, Refused}
 use Rattle.p0_refusals.proofs.Answers.{counts, output-done}
 use Rattle.p0_refusals.proofs.Room.{Fits, enough}
-use Rattle.p5_utf8_write.specs.Write.{letterLimit, writing}
+use Rattle.p5_utf8_write.specs.Write.{writeRoom, writing}
 use Rattle.p5_utf8_write.proofs.Alphabet.{few-bytes}
 
--- ---- bytes are written exactly of at most 64 letters
+-- ---- bytes are written exactly of letters within the limit
 pub written : (xs bs : List ℕ) → writing xs ≡ writes bs → (length xs ≤ letterLimit) × (allLetters xs ≡ true) × (bs ≡ encodeAll xs)
 unfolding writing
 written xs bs e = go (ltb letterLimit (length xs)) (allLetters xs) refl e
@@ -61,17 +62,16 @@ module _ (xs : List ℕ) (m : ℕ) (h : length xs ≤ letterLimit) where
   unfolding writing answer
   done a l = rw (le-ltb letterLimit (length xs) h, a, le-ltb m (length (encodeAll xs)) l) refl
 
--- ---- 64 letters have at most 192 bytes
-writing-fits : (xs : List ℕ) → Fits 192 (writing xs)
+-- ---- with room for the bytes of all letters that are written 3 is never the answer
+writing-fits : (xs : List ℕ) → Fits writeRoom (writing xs)
 unfolding writing
 writing-fits xs = go (ltb letterLimit (length xs)) (allLetters xs) refl refl
   where
     go : (t u : Bool) → ltb letterLimit (length xs) ≡ t → allLetters xs ≡ u
-        → Fits 192 (pick t (refuses Long) (pick u (writes (encodeAll xs)) (refuses Foreign)))
+        → Fits writeRoom (pick t (refuses Long) (pick u (writes (encodeAll xs)) (refuses Foreign)))
     go true u p q = λ e. let z : _≡_ {A = ℕ} 0 1 = cc in omega arith
     go false true p q = omega (arith, few-bytes xs q, ltb-false letterLimit (length xs) p)
     go false false p q = λ e. let z : _≡_ {A = ℕ} 0 1 = cc in omega arith
 
--- so with 192 bytes of room 3 is never the answer
-pub write-room : (xs : List ℕ) (n : ℕ) → 192 ≤ n → answer (writing xs) n ≡ Refused Short → ⊥
-write-room xs n h = enough (writing xs) 192 n (writing-fits xs) h
+pub write-room : (xs : List ℕ) (n : ℕ) → writeRoom ≤ n → answer (writing xs) n ≡ Refused Short → ⊥
+write-room xs n h = enough (writing xs) writeRoom n (writing-fits xs) h

@@ -8,12 +8,13 @@ ghost use Rattle.p0_refusals.specs.Answers.{counted, answer, onto, output};
 ghost use Rattle.p5_utf8.specs.Rfc3629.{encodeAll};
 ghost use Rattle.p5_utf8_write.specs.Write.{writing};
 use p0_refusals::Answer;
+use p0_refusals::LETTERS;
 use p0_refusals::Refusal;
 use p1_letters as letters;
 use p5_utf8 as utf8;
 
-// The most letters that are written; `letterLimit` says the same.
-pub const LETTERS: usize = 64;
+// The most bytes of a letter; `letterBytes` says the same.
+pub const WIDTH: usize = 3;
 
 // How many bytes the letters have, or why they are refused.
 fn measure(word: &[u32]) -> Answer
@@ -49,7 +50,7 @@ fn lay(word: &[u32], out: &mut [u8])
     }
 }
 
-// Writes at most 64 letters as UTF-8, from the start of `out`. Refusals: 6, then 1, last 3; `out` then stays as it was.
+// Writes at most LETTERS letters as UTF-8, from the start of `out`. Refusals: 6, then 1, last 3; `out` then stays as it was.
 pub fn write(word: &[u32], out: &mut [u8]) -> Answer
     ensures { λ r. ⌜ r ≡ answer (writing (now (word .entry))) (length (now (out .entry))) ⌝ }
     ensures { λ r. ⌜ now (out .exit) ≡ output (writing (now (word .entry))) (now (out .entry)) ⌝ }

@@ -7,6 +7,7 @@ use lib.Dec.{ltb, eqb, leb}
 use lib.ListN.{length}
 use Rattle.p0_choice.specs.Choice.{pick}
 use Rattle.p0_choice.proofs.Choices.{pick-both}
+use Rattle.p0_refusals.specs.Limits.{letterLimit}
 use Rattle.p0_refusals.specs.declared.Answer.{Answer}
 use Rattle.p1_letters.specs.Alphabet.{inAlphabet, allLetters, asciiLower}
 use Rattle.p2_input_method.specs.declared.InputMethod.{InputMethod}
@@ -23,7 +24,7 @@ use Rattle.p3_key.specs.Process.{inMode, next, keyNext, keyed}
 use Rattle.p3_calls.specs.Literal.{literal}
 use Rattle.p3_calls.specs.Output.{popped}
 use Rattle.p3_calls.specs.Settings.{empty, created, resetTo, methodSet, turned, enabledSet}
-use Rattle.p3_undo.specs.Call.{rawLimit, undoFound, undoTelex}
+use Rattle.p3_undo.specs.Call.{undoFound, undoTelex}
 use Rattle.p3_undo.specs.Raw.{lowered}
 use Rattle.p3_undo.specs.Undo.{toUndo}
 use Rattle.p3_undo.specs.declared.Undoing.{Undoing}
@@ -74,7 +75,9 @@ undo-tidy : (c : Composition) (t : ℕ) (raw : List ℕ) → Tidy c → Tidy (un
 unfolding undoTelex
 undo-tidy c t raw e =
     either (isSound c) _ _
-    (either (ltb rawLimit (length raw)) _ _ e (either (inAlphabet t) _ _ (either (allLetters raw) _ _ (found-tidy c (toUndo (c .method) (used c) (lowered raw) (asciiLower t)) e) e) e)) e
+    (either (ltb letterLimit (length raw)) _ _ e
+    (either (inAlphabet t) _ _
+    (either (allLetters raw) _ _ (found-tidy c (toUndo (c .method) (used c) (lowered raw) (asciiLower t)) e) e) e)) e
   where
     either : (s : Bool) (a d : Undone) → Tidy (a .comp) → Tidy (d .comp) → Tidy (pick s a d .comp)
     either true a d p q = p

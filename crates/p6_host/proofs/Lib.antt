@@ -1,4 +1,5 @@
 pub mod Demand1
+pub mod Header
 pub mod LetterCalls
 pub mod ListerCalls
 pub mod MethodCalls

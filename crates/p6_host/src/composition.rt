@@ -1,4 +1,4 @@
-// A composition, in 264 bytes of the host (port order 3); docs/BYTES.md states their order.
+// A composition, in bytes of the host (port order 3); docs/BYTES.md states their order.
 ghost use mathlib.Core.Path.{_≡_};
 ghost use lib.ListN.{length};
 ghost use Rattle.p0_refusals.specs.Answers.{refusalOf};

@@ -11,6 +11,7 @@ use lib.ListN.{length, take, drop, getD, set, length-set, length-append, length-
 use lib.Seq.{paste-suc, take-suc-set, length-take-le, take-all}
 use Rattle.p0_choice.proofs.Choices.{pick-lt, pick-not-lt, pick-eq, pick-ne, pick-both}
 use Rattle.p0_choice.specs.Text.{lineEnd}
+use Rattle.p3_cells.specs.Cells.{limit}
 use Rattle.p7_bench.specs.Run.{after}
 use Rattle.p7_bench.specs.Floor.{Sheet, copied, freePlace, longer, lay, blankSheet}
 use Rattle.p7_bench.proofs.Run.{Run, run-start, run-more, run-end}
@@ -45,15 +46,19 @@ copy-start row d n = record { within = omega arith; kept = refl; is = refl }
 
 -- ---- the row
 pub record Laying (keys d text row : List ℕ) (count i : ℕ) : Type 0 where
-  pub few : count ≤ 32
-  pub wide : length row ≡ 32
+  pub few : count ≤ limit
+  pub wide : length row ≡ limit
   pub kept : length text ≡ length d
   pub run : Run lay (blankSheet d) keys (record { row = take count row; text = text }) i
 
 -- where the row is full, nothing of it stays
-stays : (row : List ℕ) (count : ℕ) → length row ≡ 32 → count ≤ 32 → take (freePlace (length (take count row))) (take count row) ≡ take (freePlace count) row
+stays : (row : List ℕ) (count : ℕ) → length row ≡ limit → count ≤ limit
+    → take (freePlace (length (take count row))) (take count row) ≡ take (freePlace count) row
 unfolding freePlace
-stays row count e h = rw (length-take-le count row (omega arith)) (pick-both (λ (n : ℕ). take n (take count row) ≡ take n row) (ltb count 32) count 0 (λ t. take-all count (take count row) (omega (arith, length-take-le count row (omega arith)))) (λ t. refl))
+stays row count e h =
+    rw (length-take-le count row (omega arith))
+    (pick-both (λ (n : ℕ). take n (take count row) ≡ take n row) (ltb count limit) count 0
+    (λ t. take-all count (take count row) (omega (arith, length-take-le count row (omega arith)))) (λ t. refl))
 
 copied-length : (row text : List ℕ) → length (copied row text) ≡ length text
 unfolding copied
@@ -62,7 +67,7 @@ copied-length row text =
     (λ t. refl) (λ t. rw (length-append, length-drop) (omega (arith, ltb-false (length text) (length row) t)))
 
 module _ (keys d : List ℕ) where
-  pub lay-start : (row : List ℕ) → length row ≡ 32 → Laying keys d d row 0 0
+  pub lay-start : (row : List ℕ) → length row ≡ limit → Laying keys d d row 0 0
   unfolding blankSheet
   lay-start row w = record { few = omega arith; wide = w; kept = refl; run = run-start lay (blankSheet d) keys }
 
@@ -76,10 +81,10 @@ module _ (keys d : List ℕ) where
       run = run-more lay (blankSheet d) keys _ _ i h (pick-eq _ _ _ _ _ e refl) (l .run);
     }
 
-    pub lay-room : (at k : ℕ) → at < 32 → at + 1 ≤ length (set row at k)
+    pub lay-room : (at k : ℕ) → at < limit → at + 1 ≤ length (set row at k)
     lay-room at k b = rw (length-set row at k, l .wide) (omega arith)
 
-    pub lay-more : (at : ℕ) (text' : List ℕ) → at ≡ freePlace count → at < 32 → (getD keys i 0 ≡ lineEnd → ⊥)
+    pub lay-more : (at : ℕ) (text' : List ℕ) → at ≡ freePlace count → at < limit → (getD keys i 0 ≡ lineEnd → ⊥)
         → text' ≡ copied (take (at + 1) (set row at (getD keys i 0))) text → Laying keys d text' (set row at (getD keys i 0)) (at + 1) (i + 1)
     unfolding lay longer
     lay-more at text' f b n e =

@@ -9,9 +9,10 @@ use lib.ListN.{length, take}
 use lib.Seq.{take-all, length-take-le}
 use borrow.Author.Tests.{lt-ltb, ltb-true, ltb-false}
 use Rattle.p2_input_method.specs.declared.InputMethod.{InputMethod}
+use Rattle.p0_refusals.specs.Limits.{byteLimit}
 use Rattle.p0_refusals.specs.declared.Refusal.the-variants.{Long}
 use Rattle.p0_refusals.specs.Answers.{refuses}
-use Rattle.p5_utf8_read.specs.Read.{byteLimit, reading}
+use Rattle.p5_utf8_read.specs.Read.{reading}
 use Rattle.p7_line.specs.Line.{most, lineOut}
 use Rattle.p7_line.specs.Method.{methodOf}
 

@@ -1,4 +1,4 @@
--- A line read as letters: 256 places always suffice, so that only what the bytes are refuses it.
+-- A line read as letters: as many places as bytes may be read always suffice, so that only what the bytes are refuses it.
 use Prim.Native.Nat.{ℕ, _+_, _≤_}
 use mathlib.Core.Path.{_≡_, refl, sym, ap, _∙_}
 use mathlib.Core.Bool.{Bool, true, false}
@@ -10,6 +10,7 @@ use lib.Seq.{take-at}
 use borrow.Author.Tests.{le-ltb, ltb-false}
 use Rattle.p0_choice.specs.Choice.{pick}
 use Rattle.p0_refusals.specs.Answers.{Outcome, writes, refuses, content, answer, onto, output}
+use Rattle.p0_refusals.specs.Limits.{byteLimit}
 use Rattle.p0_refusals.specs.declared.Answer.{Answer}
 use Rattle.p0_refusals.specs.declared.Answer.the-variants.{Done, Refused}
 use Rattle.p0_refusals.specs.declared.Refusal.{Refusal}
@@ -25,20 +26,21 @@ use Rattle.p2_input_method.specs.declared.InputMethod.{InputMethod}
 use Rattle.p7_line.specs.Line.{typed, typedLine, refusedLine, keysLine, lineOut}
 use Rattle.p7_line.specs.Method.{methodNamed, methodOf}
 
--- what is read is at most 256 letters, of the alphabet
-pub read-small : (s xs : List ℕ) → reading s ≡ writes xs → (length xs ≤ 256) × (allLetters xs ≡ true)
+-- what is read is no more letters than bytes may be, and all of the alphabet
+pub read-small : (s xs : List ℕ) → reading s ≡ writes xs → (length xs ≤ byteLimit) × (allLetters xs ≡ true)
 unfolding reading
-read-small s xs e = go (ltb 256 (length s)) refl e
+read-small s xs e = go (ltb byteLimit (length s)) refl e
   where
-    go : (b : Bool) → ltb 256 (length s) ≡ b → pick b (refuses Long) (letters s) ≡ writes xs → (length xs ≤ 256) × (allLetters xs ≡ true)
+    go : (b : Bool) → ltb byteLimit (length s) ≡ b → pick b (refuses Long) (letters s) ≡ writes xs
+        → (length xs ≤ byteLimit) × (allLetters xs ≡ true)
     go true p q = let z : _≡_ {A = ℕ} 0 1 = cc in absurd (omega arith)
     go false p q =
         let h = letters-exactly s xs .0 q in
-        let l = ltb-false 256 (length s) p in
-        let k : length (encodeAll xs) ≤ 256 = rw (h .0) l in
+        let l = ltb-false byteLimit (length s) p in
+        let k : length (encodeAll xs) ≤ byteLimit = rw (h .0) l in
         (omega (arith, many-bytes xs), h .1)
 
-module _ (s o : List ℕ) (g : Answer) (e : g ≡ answer (reading s) (length o)) (l : length o ≡ 256) where
+module _ (s o : List ℕ) (g : Answer) (e : g ≡ answer (reading s) (length o)) (l : length o ≡ byteLimit) where
   pub read-refused : (r : Refusal) → g ≡ Refused r → reading s ≡ refuses r
   unfolding answer
   read-refused r q = go (reading s) refl (sym q ∙ e)
@@ -50,11 +52,12 @@ module _ (s o : List ℕ) (g : Answer) (e : g ≡ answer (reading s) (length o))
           let z : _≡_ {A = ℕ} 0 1 = cc in absurd (omega arith)
       go (refuses w) p h = let k : w ≡ r = cc in p ∙ ap refuses k
 
-  read-whole : (n : ℕ) (out : List ℕ) → g ≡ Done n → out ≡ output (reading s) o → (reading s ≡ writes (take n out)) × (n ≤ 256)
+  read-whole : (n : ℕ) (out : List ℕ) → g ≡ Done n → out ≡ output (reading s) o → (reading s ≡ writes (take n out)) × (n ≤ byteLimit)
   unfolding answer content output
   read-whole n out q f = go (reading s) refl (sym q ∙ e) f
     where
-      go : (u : Outcome) → reading s ≡ u → Done n ≡ answer u (length o) → out ≡ output u o → (reading s ≡ writes (take n out)) × (n ≤ 256)
+      go : (u : Outcome) → reading s ≡ u → Done n ≡ answer u (length o) → out ≡ output u o
+          → (reading s ≡ writes (take n out)) × (n ≤ byteLimit)
       go (writes xs) p h w =
           let k = read-small s xs p .0 in
           let m : length xs ≤ length o = omega arith in

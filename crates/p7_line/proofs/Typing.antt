@@ -35,8 +35,9 @@ use Rattle.p5_utf8_write.proofs.Alphabet.{all-at}
 use Rattle.p7_line.specs.Line.{made, full, typed, typedLine, refusedLine, textLine}
 use Rattle.p3_cells.proofs.InAlphabet.{text-letters}
 
--- ---- one key, on a sound Vietnamese composition with 32 places lent
-module _ (c : Composition) (k : ℕ) (o : List ℕ) (s : isSound c ≡ true) (v : c .mode ≡ Vietnamese) (a : inAlphabet k ≡ true) (l : length o ≡ 32) where
+-- ---- one key, on a sound Vietnamese composition with a place lent for each cell
+module _ (c : Composition) (k : ℕ) (o : List ℕ) (s : isSound c ≡ true) (v : c .mode ≡ Vietnamese)
+    (a : inAlphabet k ≡ true) (l : length o ≡ limit) where
   text-long : length (textOf (next c k)) ≡ length (next c k)
   unfolding textOf
   text-long = length-map (next c k) shown
@@ -122,7 +123,7 @@ module _ (m : InputMethod) (keys : List ℕ) (c : Composition) (text : List ℕ)
   unfolding typed
   typing-done h = t .rest ∙ rw (drop-of-length-le keys h) refl
 
-  module _ (a : allLetters keys ≡ true) (h : i < length keys) (l : length text ≡ 32) (k : ℕ) (e : k ≡ getD keys i 0) where
+  module _ (a : allLetters keys ≡ true) (h : i < length keys) (l : length text ≡ limit) (k : ℕ) (e : k ≡ getD keys i 0) where
     letter : inAlphabet k ≡ true
     letter = rw e (all-at keys i a h)
 
@@ -168,7 +169,8 @@ module _ (m : InputMethod) (keys : List ℕ) (c₀ : Composition) (e : c₀ ≡ 
   typing-first text = subst (λ (d : Composition). Typing (d .method) keys d text 0 0) (sym e) (typing-start m keys text)
 
   module _ (c : Composition) (text : List ℕ) (n i : ℕ) (t : Typing (c₀ .method) keys c text n i) where
-    pub line-refused : allLetters keys ≡ true → i < length keys → length text ≡ 32 → (k : ℕ) → k ≡ getD keys i 0 → (y : Changed) (r : Refusal) → y ≡ keyed c k (length text)
+    pub line-refused : allLetters keys ≡ true → i < length keys → length text ≡ limit → (k : ℕ) → k ≡ getD keys i 0
+        → (y : Changed) (r : Refusal) → y ≡ keyed c k (length text)
         → y .answer ≡ Refused r → typedLine (typed m [] keys) ≡ refusedLine r
     unfolding typedLine
     line-refused a h l k q y r d f =
@@ -179,7 +181,7 @@ module _ (m : InputMethod) (keys : List ℕ) (c₀ : Composition) (e : c₀ ≡ 
     unfolding typedLine
     line-typed h = rw (← begun, typing-done (c₀ .method) keys c text n i t h, t .shown) refl
 
-    pub text-fits : (length (take n text) ≤ 32) × (allLetters (take n text) ≡ true)
+    pub text-fits : (length (take n text) ≤ limit) × (allLetters (take n text) ≡ true)
     unfolding textOf
     text-fits =
         let u = used-length c (t .sound) (t .cells) in

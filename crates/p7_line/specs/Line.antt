@@ -5,6 +5,7 @@ use lib.Dec.{ltb}
 use lib.ListN.{length, getD}
 use Rattle.p0_choice.specs.Choice.{pick}
 use Rattle.p0_choice.specs.Text.{word, lineEnd}
+use Rattle.p0_refusals.specs.Limits.{byteLimit}
 use Rattle.p0_refusals.specs.Refusals.{numberOf}
 use Rattle.p0_refusals.specs.declared.Refusal.{Refusal}
 use Rattle.p0_refusals.specs.declared.Refusal.the-variants.{Full}
@@ -16,15 +17,20 @@ use Rattle.p3_step.specs.Key.{keyCells}
 use Rattle.p4_spelling.specs.Verdict.{verdict}
 use Rattle.p0_refusals.specs.Answers.{Outcome, writes, refuses}
 use Rattle.p5_utf8.specs.Rfc3629.{encodeAll}
-use Rattle.p5_utf8_read.specs.Read.{byteLimit, reading}
+use Rattle.p5_utf8_write.specs.Write.{letterBytes}
+use Rattle.p5_utf8_read.specs.Read.{reading}
 
 -- "A program line or other bytes to be read as UTF-8: at most 256": by one byte more a line is refused, whatever follows it
 abbrev pub most : ℕ
 most = byteLimit + 1
 
--- the most that a line prints: the cells' letters, of three bytes at most, a tab, `yes` and U+000A
+-- the most bytes of a text: those of all cells' letters
+abbrev pub textBytes : ℕ
+textBytes = letterBytes * limit
+
+-- the most that a line prints: a text, a tab, `yes` and U+000A
 abbrev pub lineRoom : ℕ
-lineRoom = 3 * limit + 5
+lineRoom = textBytes + 5
 
 unfoldable pub digit : ℕ → ℕ
 digit n = getD (word "0123456789") n 0

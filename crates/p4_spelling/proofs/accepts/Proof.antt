@@ -1,12 +1,13 @@
 use borrow.Author.Needs.{needs}
 use Prim.Native.Nat.{_-_, _≤_}
 use lib.ListN.{length}
+use Rattle.p4_spelling.specs.Verdict.{longestLength}
 use Rattle.p4_spelling.proofs.Folding.{Folded, too-long, begin, fold-on, begins-z, folded}
 use Rattle.p4_spelling.proofs.accepts.Statement.{statement}
 use Rattle.p4_spelling.proofs.accepts.Tie as tie
 
 abbrev Inv-loop : tie.InvT-loop
-Inv-loop word n plain₀ i₀ plain i = (length word ≤ 8) × Folded word plain i
+Inv-loop word n plain₀ i₀ plain i = (length word ≤ longestLength) × Folded word plain i
 
 abbrev μ-loop : tie.MeasureT-loop
 μ-loop word n plain₀ i₀ plain i = n - i

@@ -3,6 +3,7 @@ use mathlib.Core.Path.{_≡_, refl}
 use native.Mathlib.Omega.{arith}
 use borrow.Author.Needs.{needs}
 use lib.ListN.{length}
+use Rattle.p4_spelling.specs.Verdict.{longestLength}
 use Rattle.p5_lister.proofs.Copy.{Copied, copy-more}
 use Rattle.p5_lister.proofs.put.Statement.{statement}
 use Rattle.p5_lister.proofs.put.Tie as tie
@@ -13,7 +14,7 @@ Inv-loop n out₀ letters i₀ out i = Copied letters out₀ n out i
 abbrev μ-loop : tie.MeasureT-loop
 μ-loop n out₀ letters i₀ out i = n - i
 
-eight : (c : tie.Start Inv-loop μ-loop) → length (c .args .t1) ≡ 8
+eight : (c : tie.Start Inv-loop μ-loop) → length (c .args .t1) ≡ longestLength
 eight c = search needs
 
 loop-holds : tie.Need-loop-holds Inv-loop μ-loop

@@ -3,13 +3,14 @@ use borrow.Author.Needs.{needs}
 use mathlib.Core.Path.{_≡_, refl}
 use Prim.Native.Nat.{_≤_, _-_}
 use lib.ListN.{length}
+use Rattle.p3_cells.specs.Cells.{limit}
 use Rattle.p7_line.proofs.Typing.{Typing, typing-first, typing-on, line-refused, line-typed, text-fits}
 use Rattle.p7_line.proofs.keys_line.Statement.{statement}
 use Rattle.p7_line.proofs.keys_line.Tie as tie
 
 abbrev Inv-loop : tie.InvT-loop
 Inv-loop keys out₀ at c₀ text₀ count₀ i₀ out c text count i =
-    (i ≤ length keys) × (length text ≡ 32) × (length out ≡ length out₀) × (out ≡ out₀) × Typing (c₀ .method) keys c text count i
+    (i ≤ length keys) × (length text ≡ limit) × (length out ≡ length out₀) × (out ≡ out₀) × Typing (c₀ .method) keys c text count i
 
 abbrev μ-loop : tie.MeasureT-loop
 μ-loop keys out₀ at c₀ text₀ count₀ i₀ out c text count i = length keys - i
