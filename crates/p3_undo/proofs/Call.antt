@@ -8,7 +8,7 @@ use borrow.Author.Tests.{lt-ltb, le-ltb, not-true, not-false}
 use Rattle.p0_refusals.specs.declared.Refusal.the-variants.{Foreign, NoUndo, Long, Unsound}
 use Rattle.p1_letters.specs.Alphabet.{inAlphabet, allLetters, asciiLower}
 use Rattle.p2_input_method.specs.declared.UndoBehavior.{UndoBehavior}
-use Rattle.p3_cells.specs.Cells.{limit, blank, isSound, used}
+use Rattle.p3_cells.specs.Cells.{blank, isSound, used}
 use Rattle.p3_cells.specs.declared.Cell.{Cell}
 use Rattle.p3_cells.specs.declared.Composition.{Composition}
 use Rattle.p3_cells.proofs.Holding.{used-at, holding-set}
@@ -28,22 +28,22 @@ module _ (c : Composition) (raw : List ℕ) (t : ℕ) (u : Undoing) (s : isSound
   unfolding undoFound
   undo-nothing q = rw (← f, q) refl
 
-  module _ (n : length (c .cells) ≡ limit) where
-    pub undo-toneless : (i : ℕ) (x y : Cell) → u ≡ Tone i → x ≡ getD (c .cells) i blank → y ≡ toneless x
-        → record { comp = record { cells = set (c .cells) i y; method = c .method; mode = c .mode; count = c .count }; answer = Append }
-        ≡ undoFound c (toUndo (c .method) (used c) raw t)
-    unfolding undoFound undone
-    undo-toneless i x y q a b =
-        let m : i < c .count = tone-in-use c raw t u s n f i q in
-        rw (← f, q, holding-set c s n i y m, b, a, ← used-at c s n i m) refl
+  pub undo-toneless : (i : ℕ) (x y : Cell) → u ≡ Tone i → x ≡ getD (c .cells) i blank → y ≡ toneless x
+      → record { comp = record { cells = set (c .cells) i y; method = c .method; mode = c .mode; count = c .count }; answer = Append }
+      ≡ undoFound c (toUndo (c .method) (used c) raw t)
+  unfolding undoFound undone
+  undo-toneless i x y q a b =
+      let m : i < c .count = tone-in-use c raw t u s f i q in
+      rw (← f, q, holding-set c s i y m, b, a, ← used-at c i m) refl
 
-    pub undo-restored : (i j : ℕ) (d : UndoBehavior) (x y : Cell) (w : TelexUndo) → u ≡ Mark i j d → x ≡ getD (c .cells) i blank → y ≡ restored j x → w ≡ toldOf d
-        → record { comp = record { cells = set (c .cells) i y; method = c .method; mode = c .mode; count = c .count }; answer = w }
-        ≡ undoFound c (toUndo (c .method) (used c) raw t)
-    unfolding undoFound undone
-    undo-restored i j d x y w q a b g =
-        let m : i < c .count = mark-in-use c raw t u s n f i j d q in
-        rw (← f, q, g, holding-set c s n i y m, b, a, ← used-at c s n i m) refl
+  pub undo-restored : (i j : ℕ) (d : UndoBehavior) (x y : Cell) (w : TelexUndo)
+      → u ≡ Mark i j d → x ≡ getD (c .cells) i blank → y ≡ restored j x → w ≡ toldOf d
+      → record { comp = record { cells = set (c .cells) i y; method = c .method; mode = c .mode; count = c .count }; answer = w }
+      ≡ undoFound c (toUndo (c .method) (used c) raw t)
+  unfolding undoFound undone
+  undo-restored i j d x y w q a b g =
+      let m : i < c .count = mark-in-use c raw t u s f i j d q in
+      rw (← f, q, g, holding-set c s i y m, b, a, ← used-at c i m) refl
 
 -- ---- the refusals
 module _ (c : Composition) (k : ℕ) (raw : List ℕ) (r : Undone) (s : Bool) (e : s ≡ isSound c) where

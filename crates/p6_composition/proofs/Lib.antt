@@ -1,5 +1,5 @@
 pub mod Steps
-pub mod Tidy
-pub mod Calls
 pub mod Kept
+pub mod Calls
 pub mod Counted
+pub mod Back
