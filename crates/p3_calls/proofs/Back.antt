@@ -7,20 +7,14 @@ use native.Mathlib.Omega.{arith}
 use lib.ListN.{length, take, length-append}
 use lib.Seq.{take-append-seam}
 use Rattle.p0_refusals.specs.Answers.{answer}
-use Rattle.p0_refusals.specs.declared.Answer.{Answer}
 use Rattle.p0_refusals.specs.declared.Answer.the-variants.{Done}
 use Rattle.p3_cells.specs.Cells.{typed, isSound, used, holding}
-use Rattle.p3_cells.specs.Leaving.{changed}
 use Rattle.p3_cells.specs.declared.Cell.{Cell}
 use Rattle.p3_cells.specs.declared.Composition.{Composition}
 use Rattle.p3_cells.proofs.Holding.{used-holding, holding-again, holding-used}
+use Rattle.p3_cells.proofs.Leaving.{done-leaves}
 use Rattle.p3_calls.specs.Literal.{literalOutcome, literal}
 use Rattle.p3_calls.specs.Output.{left, popOutcome, popped}
-
--- where a call is done, what it makes is what it leaves
-done-leaves : (a : Answer) (c d : Composition) (k : ℕ) → changed a c d .answer ≡ Done k → changed a c d .comp ≡ d
-unfolding changed
-done-leaves a c d k e = rw e refl
 
 without-last : (xs : List Cell) (x : Cell) → take (length (xs ++ (x ∷ [])) - 1) (xs ++ (x ∷ [])) ≡ xs
 without-last xs x =
