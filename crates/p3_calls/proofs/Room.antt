@@ -15,24 +15,23 @@ use Rattle.p3_cells.specs.Cells.{limit, isSound, used}
 use Rattle.p3_cells.specs.Text.{shown, textOf}
 use Rattle.p3_cells.specs.declared.Cell.{Cell}
 use Rattle.p3_cells.specs.declared.Composition.{Composition}
-use Rattle.p3_cells.proofs.Holding.{count-fits}
+use Rattle.p3_cells.proofs.Holding.{used-few, count-fits}
 use Rattle.p3_calls.specs.Output.{textOutcome, left, popOutcome}
 
-text-short : (n k : ℕ) (xs : List Cell) → n ≤ k → length (textOf (take n xs)) ≤ k
+text-short : (xs : List Cell) (k : ℕ) → length xs ≤ k → length (textOf xs) ≤ k
 unfolding textOf
-text-short n k xs h = omega (arith, length-map (take n xs) shown, length-take n xs)
+text-short xs k h = omega (arith, length-map xs shown)
 
 module _ (c : Composition) where
   used-short : isSound c ≡ true → length (used c) ≤ limit
-  unfolding used
-  used-short s = omega (arith, count-fits c s, length-take (c .count) (c .cells))
+  used-short s = omega (arith, count-fits c s, used-few c)
 
   text-fits : Fits limit (textOutcome c)
-  unfolding textOutcome used
+  unfolding textOutcome
   text-fits = go (isSound c) refl
     where
-      go : (s : Bool) → isSound c ≡ s → Fits limit (pick s (writes (textOf (take (c .count) (c .cells)))) (refuses Unsound))
-      go true s = text-short (c .count) limit (c .cells) (count-fits c s)
+      go : (s : Bool) → isSound c ≡ s → Fits limit (pick s (writes (textOf (used c))) (refuses Unsound))
+      go true s = text-short (used c) limit (used-short s)
       go false s = λ e. let z : _≡_ {A = ℕ} 0 1 = cc in omega arith
 
   pop-fits : Fits limit (popOutcome c)
@@ -42,7 +41,8 @@ module _ (c : Composition) where
       go : (s : Bool) → isSound c ≡ s → (b : Bool)
           → Fits limit (pick s (pick b (refuses Empty) (writes (textOf (take (length (used c) - 1) (used c))))) (refuses Unsound))
       go true s true = λ e. let z : _≡_ {A = ℕ} 0 1 = cc in omega arith
-      go true s false = text-short (length (used c) - 1) limit (used c) (omega (arith, used-short s))
+      go true s false =
+          text-short (take (length (used c) - 1) (used c)) limit (omega (arith, used-short s, length-take (length (used c) - 1) (used c)))
       go false s b = λ e. let z : _≡_ {A = ℕ} 0 1 = cc in omega arith
 
   pub text-room : (n : ℕ) → limit ≤ n → answer (textOutcome c) n ≡ Refused Short → ⊥

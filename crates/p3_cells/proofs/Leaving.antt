@@ -35,6 +35,11 @@ module _ (w : Outcome) (c d : Composition) (n : ℕ) where
 
 pub ruleset leaves = (changed-refused, changed-short, changed-done, changed-nothing)
 
+-- where a call is done, what it makes is what it leaves
+pub done-leaves : (a : Answer) (c d : Composition) (k : ℕ) → changed a c d .answer ≡ Done k → changed a c d .comp ≡ d
+unfolding changed
+done-leaves a c d k e = rw e refl
+
 -- what holds of the composition before, and of that of a call that is done, holds after
 pub changed-keeps : (P : Composition → Type 0) (a : Answer) (c d : Composition) → P c → ((n : ℕ) → a ≡ Done n → P d) → P (changed a c d .comp)
 unfolding changed

@@ -7,7 +7,7 @@ use mathlib.Core.List.{List, [], _∷_, _++_}
 use native.Mathlib.Omega.{arith}
 use native.Mathlib.Numerals.{add-one}
 use lib.Dec.{eqb}
-use lib.ListN.{getD}
+use lib.ListN.{length, getD}
 use borrow.Author.Tests.{eqb-true, eqb-false, eq-eqb, ne-eqb, le-leb, lt-leb, not-true, not-false}
 use Rattle.p0_choice.specs.Choice.{pick, among, each, count as from}
 use Rattle.p0_choice.specs.Text.{word}
@@ -116,17 +116,17 @@ weight-lower x u = rw u (go (eqb (x .base) 0) (eqb (x .mark) 0) (eqb (x .tone) 0
 unfoldable pub fitsFrom : Composition → ℕ → Bool
 fitsFrom c i = each (fitsAt (c .cells) (c .count)) (from (limit - i) i)
 
-turn : (c : Composition) (i : ℕ) → i < limit → fitsFrom c i ≡ pick (fitsAt (c .cells) (c .count) i) (fitsFrom c (i + 1)) false
+pub turn : (c : Composition) (i : ℕ) → i < limit → fitsFrom c i ≡ pick (fitsAt (c .cells) (c .count) i) (fitsFrom c (i + 1)) false
 unfolding fitsFrom
 turn c i l = let e : limit - i ≡ suc (limit - (i + 1)) = omega arith in rw (e, add-one i) refl
 
 pub sound-long : (c : Composition) → limit < c .count → false ≡ isSound c
 unfolding isSound
-sound-long c l = rw (lt-leb (c .count) limit l) refl
+sound-long c l = rw (lt-leb (c .count) limit l) (none (eqb (length (c .cells)) limit))
 
-pub sound-start : (c : Composition) → c .count ≤ limit → isSound c ≡ fitsFrom c 0
+pub sound-start : (c : Composition) → length (c .cells) ≡ limit → c .count ≤ limit → isSound c ≡ fitsFrom c 0
 unfolding isSound fitsFrom
-sound-start c l = rw (le-leb (c .count) limit l) refl
+sound-start c n l = rw (eq-eqb (length (c .cells)) limit n, le-leb (c .count) limit l) refl
 
 module _ (c : Composition) (s v : Bool) (i : ℕ) (e : s ≡ fitsFrom c i) (l : i < c .count) (h : c .count ≤ limit) (p : v ≡ isCell (getD (c .cells) i blank)) where
   step : s ≡ pick v (fitsFrom c (i + 1)) false
@@ -142,7 +142,7 @@ module _ (c : Composition) (s v : Bool) (i : ℕ) (e : s ≡ fitsFrom c i) (l : 
 pub past-start : (c : Composition) (s : Bool) (i : ℕ) → s ≡ fitsFrom c i → s ≡ pick (eqb 0 0) (fitsFrom c i) false
 past-start c s i e = e
 
-heavy : (a : ℕ) (b : Bool) → (a ≡ 0 → ⊥) → pick (eqb a 0) b false ≡ false
+pub heavy : (a : ℕ) (b : Bool) → (a ≡ 0 → ⊥) → pick (eqb a 0) b false ≡ false
 heavy a b h = rw (ne-eqb a 0 h) refl
 
 module _ (c : Composition) (s : Bool) (i t : ℕ) (e : s ≡ pick (eqb t 0) (fitsFrom c i) false) where

@@ -47,9 +47,11 @@ isCell x = pick (inAlphabet (x .base)) (pick (markFits x) (toneFits x) false) fa
 unfoldable pub fitsAt : List Cell → ℕ → ℕ → Bool
 fitsAt cells n i = pick (ltb i n) (isCell (getD cells i blank)) (isBlank (getD cells i blank))
 
--- "Sound: count at most 32" and every cell fits
+-- "Sound: count at most 32" and every cell fits; "at most 32 cells": the array has a place for each, and no more
 unfoldable pub isSound : Composition → Bool
-isSound c = pick (leb (c .count) limit) (each (fitsAt (c .cells) (c .count)) (from limit 0)) false
+isSound c =
+    pick (eqb (length (c .cells)) limit) (pick (leb (c .count) limit) (each (fitsAt (c .cells) (c .count)) (from limit 0)) false)
+    false
 
 -- *Append* "the letter as typed, flag on if capital": the cell of a letter
 unfoldable pub typed : ℕ → Cell

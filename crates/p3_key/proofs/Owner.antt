@@ -40,12 +40,14 @@ unsound m n c key r = refl
 
 -- the edit: s is the answer of the soundness test, and the row has u bases
 edit-known : (c : Composition) (key : ℕ) (o b : List ℕ) (trusted s : Bool) (t i j u : ℕ) (e : Edit)
-    → fitsFrom c 0 ≡ faultsBy c t i → limit ≤ i → (trusted ≡ true → isSound c ≡ true) → s ≡ soundBy trusted (c .count) t
+    → length (c .cells) ≡ limit → fitsFrom c 0 ≡ faultsBy c t i → limit ≤ i
+    → (trusted ≡ true → isSound c ≡ true) → s ≡ soundBy trusted (c .count) t
     → u ≡ min (c .count) limit → Filled (c .cells) b j → j ≤ u → u ≤ j
     → e ≡ editOf s (c .method) (c .mode) (rowCells (take (u - 0) (drop 0 b))) key (c .count) (length o)
     → e ≡ editOf (isSound c) (c .method) (c .mode) (rowCells (bases (used c))) key (c .count) (length o)
-edit-known c key o b trusted s t i j u e f l p q h g k m r =
-    r ∙ ap (λ (v : Bool). editOf v (c .method) (c .mode) (rowCells (take (u - 0) (drop 0 b))) key (c .count) (length o)) (faults-sound c t i trusted s f l p q)
+edit-known c key o b trusted s t i j u e n f l p q h g k m r =
+    r ∙ ap (λ (v : Bool). editOf v (c .method) (c .mode) (rowCells (take (u - 0) (drop 0 b))) key (c .count) (length o))
+    (faults-sound c t i trusted s n f l p q)
     ∙ go (isSound c) refl
   where
     go : (v : Bool) → isSound c ≡ v
@@ -63,7 +65,8 @@ letters-stored m key cells at also p q o out j v w n e f h l r =
 
 -- ---- the return; the row is what was lent
 pub owner-right : (c : Composition) (key : ℕ) (o out b row : List ℕ) (trusted s : Bool) (t i j u k r : ℕ) (e : Edit) (p q : Cell)
-    → length (c .cells) ≡ limit → fitsFrom c 0 ≡ faultsBy c t i → limit ≤ i → (trusted ≡ true → isSound c ≡ true) → s ≡ soundBy trusted (c .count) t
+    → length (c .cells) ≡ limit → fitsFrom c 0 ≡ faultsBy c t i → limit ≤ i
+    → (trusted ≡ true → isSound c ≡ true) → s ≡ soundBy trusted (c .count) t
     → u ≡ min (c .count) limit → Filled (c .cells) b j → j ≤ u → u ≤ j
     → row ≡ take (u - 0) (drop 0 b) → e ≡ editOf s (c .method) (c .mode) (rowCells row) key (c .count) (length o)
     → k ≡ asciiLower key → p ≡ putCell (e .change) (e .mark) (getD (c .cells) (e .at) blank) (getD (c .cells) (e .also) blank) key k → q ≡ alsoCell (e .change) p
@@ -73,8 +76,8 @@ pub owner-right : (c : Composition) (key : ℕ) (o out b row : List ℕ) (truste
 unfolding keyed changed edited
 owner-right c key o out b row trusted s t i j u k r e p q n f l z y h g a d v′ w x m m′ y′ r′ r″ =
     let d′ : r ≡ e .letters = omega arith in
-    let known = edit-known c key o b trusted s t i j u e f l z y h g a d (rw v′ at w) in
-    let right : Right c key o e = rw known (edit-right c key o n) in
+    let known = edit-known c key o b trusted s t i j u e n f l z y h g a d (rw v′ at w) in
+    let right : Right c key o e = rw known (edit-right c key o) in
     (rw (m′, m, x) (λ δ. record { comp = right .comp δ; answer = right .told δ }), y′ ∙ rw (m′, m, x, d′) (right .out))
 
 -- ---- its two callers: one tests, and the other knows that the composition is sound

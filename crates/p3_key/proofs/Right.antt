@@ -23,7 +23,8 @@ use Rattle.p3_cells.specs.declared.Composition.{Composition}
 use Rattle.p3_cells.specs.declared.Mode.{Mode}
 use Rattle.p3_cells.specs.declared.Mode.the-variants.{Vietnamese, English}
 use Rattle.p0_refusals.specs.declared.Answer.the-variants.{Done, Refused}
-use Rattle.p3_cells.proofs.Holding.{length-blanks, count-fits, used-length, used-cells, holding-used}
+use Rattle.p3_cells.proofs.Holding.{length-blanks, count-fits, used-length, used-cells, made, cells-held, holding-used}
+use Rattle.p3_cells.proofs.Soundness.{sound-length}
 use Rattle.p3_row.specs.Row.{rowCells, bases}
 use Rattle.p3_step.specs.Key.{keyCells}
 use Rattle.p3_step.specs.Step.{stepOf, putCell, alsoCell}
@@ -125,15 +126,14 @@ blanks-less n zero = let d : n - 0 ≡ n = omega arith in rw d refl
 blanks-less zero (suc k) = let d : 0 - suc k ≡ 0 = omega arith in rw d refl
 blanks-less (suc n) (suc k) = let d : suc n - suc k ≡ n - k = omega arith in rw d (blanks-less n k)
 
-module _ (c : Composition) (s : isSound c ≡ true) (n : length (c .cells) ≡ limit) where
+module _ (c : Composition) (s : isSound c ≡ true) where
   parted : c .cells ≡ used c ++ blanks (limit - length (used c))
-  unfolding holding
-  parted = ap (λ (d : Composition). d .cells) (holding-used c s n)
+  parted = ap (λ (d : Composition). d .cells) (holding-used c s) ∙ cells-held c (used c)
 
   module _ (xs : List Cell) (key : ℕ) (t : Step) (h : Makes t (used c) xs key (asciiLower key)) (l : length xs ≤ limit) where
     step-cells : stored t (c .cells) key (asciiLower key) ≡ xs ++ blanks (limit - length xs)
     step-cells =
-        let u = used-length c s n in
+        let u = used-length c s in
         let f = count-fits c s in
         let g = h .count in
         let v = h .grows in
@@ -142,8 +142,8 @@ module _ (c : Composition) (s : isSound c ≡ true) (n : length (c .cells) ≡ l
         rw parted (h .cells (blanks (limit - length (used c))) (omega arith) ∙ rw (blanks-less (limit - length (used c)) (t .count - length (used c)), d) refl)
 
     held : edited c (wrote t) key ≡ holding c xs
-    unfolding edited holding stored
-    held = rw (step-cells, h .count) refl
+    unfolding edited stored
+    held = rw (h .count) (made c xs (stored t (c .cells) key (asciiLower key)) (length xs) step-cells refl)
 
 -- what the definitions say where the answer is a number of letters
 in-vietnamese : {A : Type 0} (m : Mode) (a b : A) → m ≡ Vietnamese → inMode m a b ≡ a
@@ -178,14 +178,14 @@ module _ (c : Composition) (key : ℕ) (m : c .mode ≡ Vietnamese) where
   next-vietnamese = in-vietnamese (c .mode) (holding c (next c key)) c m
 
 front : (c : Composition) (xs : List Cell) → take (length xs) (holding c xs .cells) ≡ xs
-unfolding holding
-front c xs = take-append-seam xs (blanks (limit - length xs))
+front c xs = rw (cells-held c xs) (take-append-seam xs (blanks (limit - length xs)))
 
-step-right : (c : Composition) → isSound c ≡ true → length (c .cells) ≡ limit → (key : ℕ) (t : Step) → Makes t (used c) (next c key) key (asciiLower key) → length (next c key) ≤ limit
-    → (o : List ℕ) → c .mode ≡ Vietnamese → keyOutcome c key ≡ writes (written c key) → length (written c key) ≤ length o → Right c key o (wrote t)
+step-right : (c : Composition) → isSound c ≡ true → (key : ℕ) (t : Step) → Makes t (used c) (next c key) key (asciiLower key)
+    → length (next c key) ≤ limit → (o : List ℕ) → c .mode ≡ Vietnamese → keyOutcome c key ≡ writes (written c key)
+    → length (written c key) ≤ length o → Right c key o (wrote t)
 unfolding lettersTo
-step-right c s n key t h l o m q r =
-    let d = held c s n (next c key) key t h l in
+step-right c s key t h l o m q r =
+    let d = held c s (next c key) key t h l in
     record {
       comp = d ∙ sym (comp-written c key o q r ∙ next-vietnamese c key m);
       told = told-written c key o q r (t .count) (h .count ∙ sym (written-length c key m));
@@ -195,7 +195,7 @@ step-right c s n key t h l o m q r =
     }
 
 -- ---- the edit of a sound composition and a letter of the alphabet
-module _ (c : Composition) (key : ℕ) (o : List ℕ) (n : length (c .cells) ≡ limit) (s : isSound c ≡ true) (a : inAlphabet key ≡ true) where
+module _ (c : Composition) (key : ℕ) (o : List ℕ) (s : isSound c ≡ true) (a : inAlphabet key ≡ true) where
   module _ (m : c .mode ≡ English) where
     full-english : isFull c key ≡ false
     unfolding isFull
@@ -216,7 +216,7 @@ module _ (c : Composition) (key : ℕ) (o : List ℕ) (n : length (c .cells) ≡
             short-right c key o (outcome-writes c key s a full-english) l
         go false q =
             let l : length (written c key) ≤ length o = rw written-english (ltb-false (length o) 1 q) in
-            pass-right c key o (rw n (omega arith)) m (outcome-writes c key s a full-english) l written-english
+            pass-right c key o (rw (sound-length c s) (omega arith)) m (outcome-writes c key s a full-english) l written-english
 
   module _ (m : c .mode ≡ Vietnamese) (t : Step) (h : Makes t (used c) (next c key) key (asciiLower key)) where
     vietnamese-right : Right c key o (stepEdit t (c .count) (length o))
@@ -231,22 +231,25 @@ module _ (c : Composition) (key : ℕ) (o : List ℕ) (n : length (c .cells) ≡
             short-right c key o (outcome-writes c key s a (full-vietnamese c key m ∙ rw (h .count) at p)) l
         go false false p q =
             let l : length (written c key) ≤ length o = rw (written-length c key m, ← h .count) (ltb-false (length o) (t .count) q) in
-            step-right c s n key t h (rw (h .count) at (ltb-false limit (t .count) p)) o m
+            step-right c s key t h (rw (h .count) at (ltb-false limit (t .count) p)) o m
             (outcome-writes c key s a (full-vietnamese c key m ∙ rw (h .count) at p)) l
 
 -- what the edit leaves is right
-pub edit-right : (c : Composition) (key : ℕ) (o : List ℕ) → length (c .cells) ≡ limit
+pub edit-right : (c : Composition) (key : ℕ) (o : List ℕ)
     → Right c key o (editOf (isSound c) (c .method) (c .mode) (rowCells (bases (used c))) key (c .count) (length o))
 unfolding editOf next
-edit-right c key o n = go (isSound c) (inAlphabet key) (c .mode) refl refl refl
+edit-right c key o = go (isSound c) (inAlphabet key) (c .mode) refl refl refl
   where
-    made : isSound c ≡ true → Makes (stepOf (c .method) (rowCells (bases (used c))) (asciiLower key)) (used c) (keyCells (c .method) (used c) key) key (asciiLower key)
-    made s = rw (step-same (c .method) (used c) (asciiLower key) (used-cells c s n)) (step-makes (c .method) (used c) key)
+    makes : isSound c ≡ true
+        → Makes (stepOf (c .method) (rowCells (bases (used c))) (asciiLower key)) (used c) (keyCells (c .method) (used c) key) key
+        (asciiLower key)
+    makes s = rw (step-same (c .method) (used c) (asciiLower key) (used-cells c s)) (step-makes (c .method) (used c) key)
 
     go : (s a : Bool) (m : Mode) → isSound c ≡ s → inAlphabet key ≡ a → c .mode ≡ m
         → Right c key o (pick s (pick a (inMode m (stepEdit (stepOf (c .method) (rowCells (bases (used c))) (asciiLower key)) (c .count) (length o)) (passEdit (c .count) (length o))) (refused Foreign (c .count)))
         (refused Unsound (c .count)))
     go false a m e f g = refused-right c key o Unsound (outcome-unsound c key e)
     go true false m e f g = refused-right c key o Foreign (outcome-foreign c key e f)
-    go true true English e f g = english-right c key o n e f g
-    go true true Vietnamese e f g = vietnamese-right c key o n e f g (stepOf (c .method) (rowCells (bases (used c))) (asciiLower key)) (made e)
+    go true true English e f g = english-right c key o e f g
+    go true true Vietnamese e f g =
+        vietnamese-right c key o e f g (stepOf (c .method) (rowCells (bases (used c))) (asciiLower key)) (makes e)

@@ -9,7 +9,7 @@ use Rattle.p0_refusals.specs.Limits.{letterLimit}
 use Rattle.p0_refusals.specs.declared.Refusal.the-variants.{Foreign, NoUndo, Long, Unsound}
 use Rattle.p1_letters.specs.Alphabet.{inAlphabet, allLetters, asciiLower}
 use Rattle.p2_input_method.specs.declared.MarkRule.{MarkRule}
-use Rattle.p3_cells.specs.Cells.{limit, blank, isSound, used}
+use Rattle.p3_cells.specs.Cells.{blank, isSound, used}
 use Rattle.p3_cells.specs.declared.Cell.{Cell}
 use Rattle.p3_cells.specs.declared.Composition.{Composition}
 use Rattle.p3_cells.proofs.Holding.{used-at, holding-set}
@@ -29,22 +29,22 @@ module _ (c : Composition) (raw : List ℕ) (t : ℕ) (u : Undoing) (s : isSound
   unfolding undoFound
   undo-nothing q = rw (← f, q) refl
 
-  module _ (n : length (c .cells) ≡ limit) where
-    pub undo-toneless : (i : ℕ) (x y : Cell) → u ≡ Tone i → x ≡ getD (c .cells) i blank → y ≡ toneless x
-        → record { comp = record { cells = set (c .cells) i y; method = c .method; mode = c .mode; count = c .count }; answer = AppendTrigger }
-        ≡ undoFound c (toUndo (c .method) (used c) raw t)
-    unfolding undoFound undone
-    undo-toneless i x y q a b =
-        let m : i < c .count = tone-in-use c raw t u s n f i q in
-        rw (← f, q, holding-set c s n i y m, b, a, ← used-at c s n i m) refl
+  pub undo-toneless : (i : ℕ) (x y : Cell) → u ≡ Tone i → x ≡ getD (c .cells) i blank → y ≡ toneless x
+      → record { comp = record { cells = set (c .cells) i y; method = c .method; mode = c .mode; count = c .count }; answer = AppendTrigger }
+      ≡ undoFound c (toUndo (c .method) (used c) raw t)
+  unfolding undoFound undone
+  undo-toneless i x y q a b =
+      let m : i < c .count = tone-in-use c raw t u s f i q in
+      rw (← f, q, holding-set c s i y m, b, a, ← used-at c i m) refl
 
-    pub undo-restored : (i : ℕ) (r : MarkRule) (x y : Cell) (w : TelexUndo) → u ≡ Mark i r → x ≡ getD (c .cells) i blank → y ≡ restored (r .first) x → w ≡ behaviour r
-        → record { comp = record { cells = set (c .cells) i y; method = c .method; mode = c .mode; count = c .count }; answer = w }
-        ≡ undoFound c (toUndo (c .method) (used c) raw t)
-    unfolding undoFound undone
-    undo-restored i r x y w q a b g =
-        let m : i < c .count = mark-in-use c raw t u s n f i r q in
-        rw (← f, q, g, holding-set c s n i y m, b, a, ← used-at c s n i m) refl
+  pub undo-restored : (i : ℕ) (r : MarkRule) (x y : Cell) (w : TelexUndo)
+      → u ≡ Mark i r → x ≡ getD (c .cells) i blank → y ≡ restored (r .first) x → w ≡ behaviour r
+      → record { comp = record { cells = set (c .cells) i y; method = c .method; mode = c .mode; count = c .count }; answer = w }
+      ≡ undoFound c (toUndo (c .method) (used c) raw t)
+  unfolding undoFound undone
+  undo-restored i r x y w q a b g =
+      let m : i < c .count = mark-in-use c raw t u s f i r q in
+      rw (← f, q, g, holding-set c s i y m, b, a, ← used-at c i m) refl
 
 -- ---- the refusals
 module _ (c : Composition) (k : ℕ) (raw : List ℕ) (r : Undone) (s : Bool) (e : s ≡ isSound c) where

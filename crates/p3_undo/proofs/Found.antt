@@ -84,12 +84,12 @@ module _ (cs : List Cell) (raw : List ℕ) (t : ℕ) where
   undo-fine Vni = tt
 
 -- ---- the places found are in use, and so in the array
-module _ (c : Composition) (raw : List ℕ) (t : ℕ) (u : Undoing) (s : isSound c ≡ true) (n : length (c .cells) ≡ limit)
+module _ (c : Composition) (raw : List ℕ) (t : ℕ) (u : Undoing) (s : isSound c ≡ true)
     (f : u ≡ toUndo (c .method) (used c) raw t) where
   fine : Fine (c .count) u
   fine =
       let k : Fine (length (used c)) u = rw f (undo-fine (used c) raw t (c .method)) in
-      rw (used-length c s n) at k
+      rw (used-length c s) at k
 
   pub tone-in-use : (i : ℕ) → u ≡ Tone i → i < c .count
   tone-in-use i q = rw q at fine

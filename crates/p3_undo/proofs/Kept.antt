@@ -36,16 +36,17 @@ restored-cell a x g e =
       tone = cell-is x e .tone;
     })
 
-module _ (c : Composition) (s : isSound c ≡ true) (n : length (c .cells) ≡ limit) where
+module _ (c : Composition) (s : isSound c ≡ true) where
   -- another cell in use
   set-sound : (i : ℕ) (f : Cell → Cell) → i < length (used c) → ((x : Cell) → isCell x ≡ true → isCell (f x) ≡ true)
       → isSound (holding c (set (used c) i (f (getD (used c) i blank)))) ≡ true
   set-sound i f l g =
-      let u = used-length c s n in
+      let u = used-length c s in
       let h = count-fits c s in
       let m : length (set (used c) i (f (getD (used c) i blank))) ≤ limit = rw length-set (omega arith) in
       holding-sound c (set (used c) i (f (getD (used c) i blank))) m
-      (each-set isCell (used c) i (f (getD (used c) i blank)) (used-cells c s n) (g (getD (used c) i blank) (each-at isCell blank (used c) (used-cells c s n) i l)))
+      (each-set isCell (used c) i (f (getD (used c) i blank)) (used-cells c s)
+      (g (getD (used c) i blank) (each-at isCell blank (used c) (used-cells c s) i l)))
 
   found-sound : (u : Undoing) → Fine (length (used c)) u → isSound (undoFound c u .comp) ≡ true
   unfolding undoFound undone toneless

@@ -6,7 +6,7 @@ use mathlib.Core.List.{List}
 use native.Mathlib.Omega.{arith}
 use native.Mathlib.Numerals.{add-one}
 use lib.ListN.{length, getD, drop, drop-of-length-le}
-use lib.Seq.{drop-cons, getD-take, length-take-le}
+use lib.Seq.{drop-cons}
 use borrow.Author.Tests.{eq-eqb, ne-eqb, not-true, not-false}
 use Rattle.p0_choice.specs.Choice.{pick}
 use Rattle.p0_choice.proofs.Choices.{pick-true, pick-false}
@@ -19,6 +19,7 @@ use Rattle.p3_cells.specs.Cells.{limit, blank, used}
 use Rattle.p3_cells.specs.Places.{placeOr}
 use Rattle.p3_cells.specs.declared.Cell.{Cell}
 use Rattle.p3_cells.specs.declared.Composition.{Composition}
+use Rattle.p3_cells.proofs.Holding.{used-count, used-at}
 use Rattle.p3_undo.specs.Raw.{endsIn, active}
 use Rattle.p3_undo.specs.Undo.{lastWith, hasTone, hasMark, ruleAt, byRules, toneAt, toUndo, toneless, restored}
 use Rattle.p3_cells.specs.declared.Place.{Place}
@@ -50,9 +51,9 @@ module _ (p : Cell → Bool) (c : Composition) (s : Place) (i : ℕ) (e : s ≡ 
 
   module _ (x : Cell) (v : Bool) (h : 0 < i) (k : i ≤ c .count) (f : x ≡ getD (c .cells) (i - 1) blank) (q : v ≡ p x) where
     with-turn : s ≡ pick v (At (i - 1)) (lastWith p (used c) (i - 1))
-    unfolding lastWith used
+    unfolding lastWith
     with-turn =
-        let g : v ≡ p (getD (used c) (i - 1) blank) = q ∙ ap p (f ∙ sym (getD-take (c .count) (c .cells) (i - 1) blank (omega arith))) in
+        let g : v ≡ p (getD (used c) (i - 1) blank) = q ∙ ap p (f ∙ sym (used-at c (i - 1) (omega arith))) in
         e ∙ go i h ∙ ap (λ (b : Bool). pick b (At (i - 1)) (lastWith p (used c) (i - 1))) (sym g)
       where
         go : (i : ℕ) → 0 < i → lastWith p (used c) i ≡ pick (p (getD (used c) (i - 1) blank)) (At (i - 1)) (lastWith p (used c) (i - 1))
@@ -66,10 +67,6 @@ module _ (p : Cell → Bool) (c : Composition) (s : Place) (i : ℕ) (e : s ≡ 
     with-on t = with-turn ∙ rw t refl
 
 -- ---- the rules
-used-count : (c : Composition) → c .count ≤ limit → length (c .cells) ≡ limit → length (used c) ≡ c .count
-unfolding used
-used-count c l n = length-take-le (c .count) (c .cells) (omega arith)
-
 module _ (c : Composition) (raw : List ℕ) (t : ℕ) (r : MarkRule) where
   pub rule-key : (r .key ≡ t → ⊥) → Nowhere ≡ ruleAt (used c) raw t r
   unfolding ruleAt
@@ -83,7 +80,7 @@ module _ (c : Composition) (raw : List ℕ) (t : ℕ) (r : MarkRule) where
     pub rule-last : (p : Place) → not v ≡ false → p ≡ lastWith (hasMark (r .result)) (used c) (c .count) → c .count ≤ limit → length (c .cells) ≡ limit
         → p ≡ ruleAt (used c) raw t r
     unfolding ruleAt
-    rule-last p q f l n = rw (eq-eqb (r .key) t h, ← e, not-false v q, used-count c l n) f
+    rule-last p q f l n = rw (eq-eqb (r .key) t h, ← e, not-false v q, used-count c (omega arith)) f
 
 module _ (cs : List Cell) (raw : List ℕ) (t : ℕ) (s : Undoing) (i : ℕ) (e : s ≡ byRules cs raw t (drop i (markRules Telex))) where
   pub rules-none : 7 ≤ i → Nothing ≡ s
@@ -110,7 +107,7 @@ module _ (c : Composition) (raw : List ℕ) (t : ℕ) (v : Bool) (e : v ≡ ends
   pub tone-last : (p : Place) → not v ≡ false → p ≡ lastWith (hasTone t) (used c) (c .count) → c .count ≤ limit → length (c .cells) ≡ limit
       → p ≡ toneAt (used c) raw t
   unfolding toneAt
-  tone-last p q f l n = rw (← e, not-false v q, used-count c l n) f
+  tone-last p q f l n = rw (← e, not-false v q, used-count c (omega arith)) f
 
 -- ---- first the tone, then the rules
 pub undo-vni : (m : InputMethod) (cs : List Cell) (raw : List ℕ) (t : ℕ) → m ≡ Vni → Nothing ≡ toUndo m cs raw t

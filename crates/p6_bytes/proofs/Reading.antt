@@ -11,7 +11,7 @@ use Rattle.p2_input_method.specs.declared.InputMethod.the-variants.{Telex, Vni}
 use Rattle.p3_cells.specs.declared.Mode.the-variants.{Vietnamese, English}
 use Rattle.p3_cells.specs.Cells.{limit, blank, blanks}
 use Rattle.p3_cells.specs.declared.Cell.{Cell}
-use Rattle.p6_bytes.specs.Bytes.{head, start, byteAt, cellAt, cellsAt, methodOf, modeOf, compositionOf}
+use Rattle.p6_bytes.specs.Bytes.{head, start, byteAt, cellAt, cellsAt, methodOf, modeOf}
 
 -- what stands at the eight places is the cell
 pub cell-read : (b : List ℕ) (at base mark : ℕ) → base ≡ byteAt b at + byteAt b (at + 1) * 256 + byteAt b (at + 2) * 65536 + byteAt b (at + 3) * 16777216
@@ -23,11 +23,6 @@ cell-read b at base mark p q = rw (p, q) refl
 pub cells-length : (n : ℕ) (b : List ℕ) (at : ℕ) → length (cellsAt n b at) ≡ n
 cells-length zero b at = refl
 cells-length (suc n) b at = ap suc (cells-length n b (at + 8))
-
--- what is read has all its places
-pub read-full : (b : List ℕ) → length (compositionOf b .cells) ≡ limit
-unfolding compositionOf
-read-full b = cells-length limit b head
 
 pub cells-at : (n : ℕ) (b : List ℕ) (at i : ℕ) → i < n → getD (cellsAt n b at) i blank ≡ cellAt b (at + 8 * i)
 cells-at zero b at i h = absurd (omega arith)

@@ -1,6 +1,5 @@
 -- What is written is read back, and what is read of sound bytes is written back: a sound composition has one form only, and
--- sound bytes are the form of one. A composition of specs/ may have a list of any length, and bytes of specs/ may be any
--- numbers; that the array has all its places, and that a byte is below 256, are premises.
+-- sound bytes are the form of one. Bytes of specs/ may be any numbers; that a byte is below 256 is a premise.
 use Prim.Native.Nat.{ℕ, zero, suc, _+_, _*_, _-_, _/_, _%_, _≤_, _<_}
 use mathlib.Core.Path.{_≡_, refl, sym, ap, _∙_}
 use mathlib.Core.Bool.{Bool, true, false}
@@ -18,6 +17,7 @@ use Rattle.p3_cells.specs.declared.Composition.{Composition}
 use Rattle.p3_cells.specs.declared.Mode.{Mode}
 use Rattle.p3_cells.specs.declared.Mode.the-variants.{Vietnamese, English}
 use Rattle.p0_choice.proofs.Tests.{each-from}
+use Rattle.p3_cells.proofs.Soundness.{sound-length}
 use Rattle.p6_bytes.specs.Bytes.{head, known, size, methodByte, modeByte, flagByte, cellBytes, cellsBytes, zeros, headBytes, bytesOf, byteAt, cellAt, cellsAt, methodOf, modeOf, compositionOf, spellsCell, isZero, reservedZero, bytesSound}
 use Rattle.p6_bytes.proofs.Writing.{cell-length, bytes-length}
 use Rattle.p6_bytes.proofs.Sound.{sound-size, sound-method, sound-mode, sound-reserved, sound-flag}
@@ -79,13 +79,14 @@ flags-back p (x ∷ xs) n e (suc i) h =
     let z : n + 8 * suc i + 7 ≡ n + 8 + 8 * i + 7 = omega arith in
     rw (z, ← append-assoc p (cellBytes x) (cellsBytes xs)) (flags-back (p ++ cellBytes x) xs (n + 8) l i (omega arith))
 
-module _ (c : Composition) (n : length (c .cells) ≡ limit) where
-  pub read-written : compositionOf (bytesOf c) ≡ c
-  unfolding bytesOf headBytes compositionOf
-  read-written =
-      let k : cellsAt limit (bytesOf c) head ≡ c .cells = rw n at (cells-back (headBytes c) (c .cells) head refl) in
-      rw (k, method-back (c .method), mode-back (c .mode)) refl
+-- sound or not, with all its places
+pub read-written : (c : Composition) → length (c .cells) ≡ limit → compositionOf (bytesOf c) ≡ c
+unfolding bytesOf headBytes compositionOf
+read-written c n =
+    let k : cellsAt limit (bytesOf c) head ≡ c .cells = rw n at (cells-back (headBytes c) (c .cells) head refl) in
+    rw (k, method-back (c .method), mode-back (c .mode)) refl
 
+module _ (c : Composition) where
   method-small : methodByte (c .method) ≤ 1
   method-small = go (c .method)
     where
@@ -104,6 +105,7 @@ module _ (c : Composition) (n : length (c .cells) ≡ limit) where
   pub written-sound : isSound c ≡ true → bytesSound (bytesOf c) ≡ true
   unfolding bytesSound bytesOf headBytes reservedZero isZero spellsCell
   written-sound s =
+      let n = sound-length c s in
       let l : length (bytesOf c) ≡ size = omega (arith, bytes-length (c .cells)) in
       rw (
         eq-eqb (length (bytesOf c)) size l,
@@ -111,7 +113,7 @@ module _ (c : Composition) (n : length (c .cells) ≡ limit) where
         le-leb (modeByte (c .mode)) 1 mode-small,
         each-from (spellsCell (bytesOf c)) limit 0 (λ i k h. le-leb _ 1 (flags-back (headBytes c) (c .cells) head refl i (omega arith))),
       )
-      (rw read-written s)
+      (rw (read-written c n) s)
 
 -- ---- written back
 flag-forth : (x : ℕ) → x ≤ 1 → flagByte (eqb x 1) ≡ x

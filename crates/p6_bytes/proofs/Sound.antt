@@ -18,7 +18,7 @@ use Rattle.p3_cells.specs.Soundness.{Sound}
 use Rattle.p3_cells.specs.declared.Cell.{Cell}
 use Rattle.p2_input_method.specs.declared.InputMethod.{InputMethod}
 use Rattle.p3_cells.specs.declared.Mode.{Mode}
-use Rattle.p3_cells.proofs.Holding.{length-blanks}
+use Rattle.p3_cells.proofs.Holding.{length-blanks, blanks-at}
 use Rattle.p0_choice.proofs.Numbers.{below-or-not}
 use Rattle.p0_choice.proofs.Tests.{both-are, are-both, holds, each-from}
 use Rattle.p3_cells.proofs.Soundness.{sound-is, is-sound, cell-is, is-cell}
@@ -28,11 +28,6 @@ use Rattle.p6_bytes.proofs.Reading.{cells-length, cells-at}
 
 each-is : (p : ℕ → Bool) (n i : ℕ) → each p (from n i) ≡ true → (j : ℕ) → i ≤ j → j < i + n → p j ≡ true
 each-is p n i e = each-count p n i (holds (each p (from n i)) e)
-
-blanks-at : (n i : ℕ) → getD (blanks n) i blank ≡ blank
-blanks-at zero i = refl
-blanks-at (suc n) zero = refl
-blanks-at (suc n) (suc i) = blanks-at n i
 
 -- ---- eight bytes
 flag-zero : (f : ℕ) → f ≤ 1 → eqb f 1 ≡ false → f ≡ 0
@@ -198,6 +193,7 @@ module _ (b : List ℕ) where
 
         composed : Sound (compositionOf b)
         composed = record {
+          whole = cells-length limit b head;
           few = rw (← p) f;
           inUse = λ i h. rw (cells-at limit b head i (omega arith)) (cell-is (cellAt b (start i)) (used-fits i (omega arith) .1));
           past = λ i k h. rw (cells-at limit b head i h) (zero-blank b i (past-zero i (omega arith) h));

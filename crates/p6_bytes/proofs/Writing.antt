@@ -9,6 +9,7 @@ use lib.Seq.{sets-eq, length-take-le, take-at, drop-at, drop-drop, take-suc, dro
 use Rattle.p3_cells.specs.Cells.{limit, blank, blanks, used, holding}
 use Rattle.p3_cells.specs.declared.Cell.{Cell}
 use Rattle.p3_cells.specs.declared.Composition.{Composition}
+use Rattle.p3_cells.proofs.Holding.{count-held, cells-held}
 use Rattle.p6_bytes.specs.Bytes.{head, known, start, size, methodByte, modeByte, flagByte, cellBytes, cellsBytes, zeros, headBytes, bytesOf}
 
 -- ---- a cell
@@ -120,13 +121,11 @@ three (x ∷ []) a b d h = absurd (omega arith)
 three [] a b d h = absurd (omega arith)
 
 module _ (c : Composition) (tidy : c ≡ holding c (used c)) where
-  pub tidy-count : c .count ≡ length (used c)
-  unfolding holding
-  tidy-count = ap (λ (d : Composition). d .count) tidy
+  tidy-count : c .count ≡ length (used c)
+  tidy-count = ap (λ (d : Composition). d .count) tidy ∙ count-held c (used c)
 
   tidy-cells : c .cells ≡ used c ++ blanks (limit - c .count)
-  unfolding holding
-  tidy-cells = ap (λ (d : Composition). d .cells) tidy ∙ rw (← tidy-count) refl
+  tidy-cells = ap (λ (d : Composition). d .cells) tidy ∙ cells-held c (used c) ∙ rw (← tidy-count) refl
 
   pub tidy-fits : length (c .cells) ≡ limit → c .count ≤ limit
   unfolding used

@@ -14,18 +14,20 @@ use Rattle.p0_refusals.specs.declared.Refusal.the-variants.{Unsound}
 use Rattle.p2_input_method.specs.declared.InputMethod.{InputMethod}
 use Rattle.p3_cells.specs.Cells.{isSound, used, holding}
 use Rattle.p3_cells.specs.declared.Composition.{Composition}
+use Rattle.p3_cells.proofs.Holding.{holding-used}
 use Rattle.p6_bytes.specs.Bytes.{size, bytesOf, compositionOf, methodOf, bytesSound}
 use Rattle.p6_bytes.proofs.Sound.{sound-size, sound-composition}
 use Rattle.p3_key.specs.Process.{keyOutcome, keyed}
 use Rattle.p3_calls.specs.Literal.{literal}
 use Rattle.p3_calls.specs.Output.{textOutcome, popOutcome, popped}
 use Rattle.p3_calls.specs.Settings.{created, resetTo, methodSet, enabledSet}
+use Rattle.p3_calls.proofs.Kept.{new-sound}
 use Rattle.p3_cells.specs.declared.Changed.{Changed}
 use Rattle.p3_undo.specs.Call.{undoTelex}
 use Rattle.p3_undo.specs.declared.Undone.{Undone}
 use Rattle.p6_composition.specs.Steps.{undoneStep}
 use Rattle.p6_composition.specs.Calls.{answerOn, after, bytesOn, outOn, keyStep, resetStep, literalStep, popStep, undoStep, orUnsound, methodStep, modeStep, textOn, newOn, newBytes}
-use Rattle.p6_composition.proofs.Tidy.{tidy-as, key-tidy, reset-tidy, literal-tidy, pop-tidy, undo-step-tidy, method-tidy, mode-tidy, created-tidy}
+use Rattle.p6_composition.proofs.Kept.{key-step, reset-step, literal-step, pop-step, undo-step, method-step, mode-step}
 
 -- the test has let the bytes through
 pub ok-sound : (b : List ℕ) (v : Bool) → v ≡ bytesSound b → not v ≡ false → bytesSound b ≡ true
@@ -73,6 +75,10 @@ module _ (b out new : List ℕ) (c : Composition) (v : Bool) (e : v ≡ bytesSou
   pub text-out : new ≡ output (textOutcome c) out → new ≡ outOn b (textOutcome (compositionOf b)) out
   text-out h = sound-out b out _ v e new t (rw (← f) h)
 
+-- what a call leaves is sound, and so can be written: its cells past the count are blank
+ready : (p s : Changed) → p ≡ s → isSound (s .comp) ≡ true → p .comp ≡ holding (p .comp) (used (p .comp))
+ready p s e h = rw e (holding-used (s .comp) h)
+
 -- ---- a key
 module _ (b : List ℕ) (c : Composition) (l : ℕ) (out : List ℕ) (p : Changed) (f : c ≡ compositionOf b) (g : p ≡ keyed c l (length out)) where
   pub key-is : p ≡ keyStep b l out
@@ -80,7 +86,7 @@ module _ (b : List ℕ) (c : Composition) (l : ℕ) (out : List ℕ) (p : Change
   key-is = rw (g, f) refl
 
   pub key-ready : (v : Bool) → v ≡ bytesSound b → not v ≡ false → p .comp ≡ holding (p .comp) (used (p .comp))
-  key-ready v e t = tidy-as p (keyStep b l out) key-is (key-tidy b (ok-sound b v e t) l out)
+  key-ready v e t = ready p (keyStep b l out) key-is (key-step b (ok-sound b v e t) l out)
 
 -- the composition that it is given is sound
 pub ok-read : (b : List ℕ) (v : Bool) (c : Composition) → v ≡ bytesSound b → not v ≡ false → c ≡ compositionOf b → isSound c ≡ true
@@ -93,7 +99,7 @@ module _ (b : List ℕ) (c : Composition) (p : Changed) (f : c ≡ compositionOf
   reset-is = rw (g, f) refl
 
   pub reset-ready : (v : Bool) → v ≡ bytesSound b → not v ≡ false → p .comp ≡ holding (p .comp) (used (p .comp))
-  reset-ready v e t = tidy-as p (resetStep b) reset-is (reset-tidy b (ok-sound b v e t))
+  reset-ready v e t = ready p (resetStep b) reset-is (reset-step b (ok-sound b v e t))
 
 -- ---- a literal
 module _ (b : List ℕ) (c : Composition) (l : ℕ) (p : Changed) (f : c ≡ compositionOf b) (g : p ≡ literal c l) where
@@ -102,7 +108,7 @@ module _ (b : List ℕ) (c : Composition) (l : ℕ) (p : Changed) (f : c ≡ com
   literal-is = rw (g, f) refl
 
   pub literal-ready : (v : Bool) → v ≡ bytesSound b → not v ≡ false → p .comp ≡ holding (p .comp) (used (p .comp))
-  literal-ready v e t = tidy-as p (literalStep b l) literal-is (literal-tidy b (ok-sound b v e t) l)
+  literal-ready v e t = ready p (literalStep b l) literal-is (literal-step b (ok-sound b v e t) l)
 
 -- ---- the removal
 module _ (b : List ℕ) (c : Composition) (out : List ℕ) (p : Changed) (f : c ≡ compositionOf b) (g : p ≡ popped c (length out)) where
@@ -111,7 +117,7 @@ module _ (b : List ℕ) (c : Composition) (out : List ℕ) (p : Changed) (f : c 
   pop-is = rw (g, f) refl
 
   pub pop-ready : (v : Bool) → v ≡ bytesSound b → not v ≡ false → p .comp ≡ holding (p .comp) (used (p .comp))
-  pop-ready v e t = tidy-as p (popStep b out) pop-is (pop-tidy b (ok-sound b v e t) out)
+  pop-ready v e t = ready p (popStep b out) pop-is (pop-step b (ok-sound b v e t) out)
 
 -- ---- undo
 module _ (b : List ℕ) (c : Composition) (l : ℕ) (raw : List ℕ) (k : Undone) (p : Changed) (f : c ≡ compositionOf b) (g : k ≡ undoTelex c l raw) (h : p ≡ undoneStep k) where
@@ -120,7 +126,7 @@ module _ (b : List ℕ) (c : Composition) (l : ℕ) (raw : List ℕ) (k : Undone
   undo-is = rw (h, g, f) refl
 
   pub undo-ready : (v : Bool) → v ≡ bytesSound b → not v ≡ false → p .comp ≡ holding (p .comp) (used (p .comp))
-  undo-ready v e t = tidy-as p (undoStep b l raw) undo-is (undo-step-tidy b (ok-sound b v e t) l raw)
+  undo-ready v e t = ready p (undoStep b l raw) undo-is (undo-step b (ok-sound b v e t) l raw)
 
 -- ---- the text
 module _ (b : List ℕ) (n : ℕ) (v : Bool) (e : v ≡ bytesSound b) where
@@ -169,7 +175,7 @@ module _ (b : List ℕ) (n : ℕ) (c : Composition) (p : Changed) (l : n ≤ 1) 
     method-is = rw (le-leb n 1 l, g, i, f) refl
 
     pub method-ready : (v : Bool) → v ≡ bytesSound b → not v ≡ false → p .comp ≡ holding (p .comp) (used (p .comp))
-    method-ready v e t = tidy-as p (methodStep b n) method-is (method-tidy b (ok-sound b v e t) n)
+    method-ready v e t = ready p (methodStep b n) method-is (method-step b (ok-sound b v e t) n)
 
   module _ (g : p ≡ enabledSet c (eqb n 0)) where
     pub mode-is : p ≡ modeStep b n
@@ -177,7 +183,7 @@ module _ (b : List ℕ) (n : ℕ) (c : Composition) (p : Changed) (l : n ≤ 1) 
     mode-is = rw (le-leb n 1 l, g, f) refl
 
     pub mode-ready : (v : Bool) → v ≡ bytesSound b → not v ≡ false → p .comp ≡ holding (p .comp) (used (p .comp))
-    mode-ready v e t = tidy-as p (modeStep b n) mode-is (mode-tidy b (ok-sound b v e t) n)
+    mode-ready v e t = ready p (modeStep b n) mode-is (mode-step b (ok-sound b v e t) n)
 
 -- ---- a new composition
 module _ (b : List ℕ) (n : ℕ) where
@@ -207,4 +213,4 @@ module _ (b : List ℕ) (n : ℕ) where
     new-done-bytes m c new h i f g = rw (← new-done h, ← i, ← f) g
 
 pub new-ready : (m : InputMethod) (c : Composition) → c ≡ created m → c ≡ holding c (used c)
-new-ready m c e = rw e (created-tidy m)
+new-ready m c e = rw e (holding-used (created m) (new-sound m))

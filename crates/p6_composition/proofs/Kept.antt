@@ -1,53 +1,35 @@
 -- Every call leaves sound bytes where it finds them, and a new composition's are sound.
 use Prim.Native.Nat.{ℕ}
-use mathlib.Core.Path.{_≡_, ap, _∙_}
+use mathlib.Core.Path.{_≡_}
 use mathlib.Core.Bool.{true}
 use mathlib.Core.List.{List}
-use native.Mathlib.Omega.{arith}
 use lib.Dec.{eqb, leb}
 use lib.ListN.{length}
 use Rattle.p0_choice.proofs.Choices.{pick-both}
 use Rattle.p0_refusals.specs.declared.Answer.{Answer}
 use Rattle.p0_refusals.specs.declared.Answer.the-variants.{Done, Refused}
 use Rattle.p2_input_method.specs.declared.InputMethod.{InputMethod}
-use Rattle.p3_cells.specs.Cells.{limit, isSound, used}
+use Rattle.p3_cells.specs.Cells.{isSound}
 use Rattle.p3_cells.specs.declared.Changed.{Changed}
 use Rattle.p3_cells.specs.declared.Composition.{Composition}
-use Rattle.p3_cells.proofs.Holding.{count-fits, length-holding}
 use Rattle.p3_calls.proofs.Kept.{new-sound, reset-sound, set-method-sound, set-enabled-sound, literal-sound, pop-sound}
 use Rattle.p3_calls.specs.Settings.{created}
 use Rattle.p3_key.proofs.Kept.{key-sound}
 use Rattle.p3_undo.proofs.Kept.{undo-sound}
 use Rattle.p6_bytes.specs.Bytes.{compositionOf, methodOf, bytesOf, bytesSound}
-use Rattle.p6_bytes.proofs.Reading.{read-full}
 use Rattle.p6_bytes.proofs.Round.{written-sound}
 use Rattle.p6_bytes.proofs.Sound.{sound-composition}
-use Rattle.p6_bytes.proofs.Writing.{tidy-count}
 use Rattle.p6_composition.specs.Steps.{undoneStep}
 use Rattle.p6_composition.specs.Calls.{answerOn, after, bytesOn, keyStep, resetStep, literalStep, popStep, undoStep, orUnsound, methodStep, modeStep, newOn, newBytes}
-use Rattle.p6_composition.proofs.Tidy.{Tidy, created-tidy, key-tidy, reset-tidy, literal-tidy, pop-tidy, undo-step-tidy, method-tidy, mode-tidy}
 
--- a sound composition with blank cells past its count has all its places
-tidy-length : (d : Composition) → Tidy d → isSound d ≡ true → length (d .cells) ≡ limit
-tidy-length d t s =
-    let f = count-fits d s in
-    let n = tidy-count d t in
-    ap (λ (c : Composition). length (c .cells)) t ∙ length-holding d (used d) (omega arith)
-
-pub form-sound : (d : Composition) → Tidy d → isSound d ≡ true → bytesSound (bytesOf d) ≡ true
-form-sound d t s = written-sound d (tidy-length d t s) s
-
-after-sound : (a : Answer) (b : List ℕ) (d : Composition) → bytesSound b ≡ true → Tidy d → isSound d ≡ true → bytesSound (after a b d) ≡ true
-after-sound (Done n) b d h t s = form-sound d t s
-after-sound (Refused r) b d h t s = h
+after-sound : (a : Answer) (b : List ℕ) (d : Composition) → bytesSound b ≡ true → isSound d ≡ true → bytesSound (after a b d) ≡ true
+after-sound (Done n) b d h s = written-sound d s
+after-sound (Refused r) b d h s = h
 
 module _ (b : List ℕ) (h : bytesSound b ≡ true) where
-  on-sound : (s : Changed) → Tidy (s .comp) → isSound (s .comp) ≡ true → bytesSound (bytesOn b s) ≡ true
+  on-sound : (s : Changed) → isSound (s .comp) ≡ true → bytesSound (bytesOn b s) ≡ true
   unfolding bytesOn
-  on-sound s t k = after-sound (answerOn b s) b (s .comp) h t k
-
-  full : length (compositionOf b .cells) ≡ limit
-  full = read-full b
+  on-sound s k = after-sound (answerOn b s) b (s .comp) h k
 
   or-sound : (n : ℕ) (p : Changed) → isSound (p .comp) ≡ true → isSound (orUnsound b n p .comp) ≡ true
   unfolding orUnsound
@@ -56,57 +38,57 @@ module _ (b : List ℕ) (h : bytesSound b ≡ true) where
   sound : isSound (compositionOf b) ≡ true
   sound = sound-composition b h
 
-  key-step : (key : ℕ) (out : List ℕ) → isSound (keyStep b key out .comp) ≡ true
+  pub key-step : (key : ℕ) (out : List ℕ) → isSound (keyStep b key out .comp) ≡ true
   unfolding keyStep
-  key-step key out = key-sound (compositionOf b) key (length out) sound full
+  key-step key out = key-sound (compositionOf b) key (length out) sound
 
-  reset-step : isSound (resetStep b .comp) ≡ true
+  pub reset-step : isSound (resetStep b .comp) ≡ true
   unfolding resetStep
   reset-step = reset-sound (compositionOf b) sound
 
-  literal-step : (l : ℕ) → isSound (literalStep b l .comp) ≡ true
+  pub literal-step : (l : ℕ) → isSound (literalStep b l .comp) ≡ true
   unfolding literalStep
-  literal-step l = literal-sound (compositionOf b) sound full l
+  literal-step l = literal-sound (compositionOf b) sound l
 
-  pop-step : (out : List ℕ) → isSound (popStep b out .comp) ≡ true
+  pub pop-step : (out : List ℕ) → isSound (popStep b out .comp) ≡ true
   unfolding popStep
-  pop-step out = pop-sound (compositionOf b) sound full (length out)
+  pop-step out = pop-sound (compositionOf b) sound (length out)
 
-  undo-step : (t : ℕ) (raw : List ℕ) → isSound (undoStep b t raw .comp) ≡ true
+  pub undo-step : (t : ℕ) (raw : List ℕ) → isSound (undoStep b t raw .comp) ≡ true
   unfolding undoStep undoneStep
-  undo-step t raw = undo-sound (compositionOf b) sound full t raw
+  undo-step t raw = undo-sound (compositionOf b) sound t raw
 
-  method-step : (m : ℕ) → isSound (methodStep b m .comp) ≡ true
+  pub method-step : (m : ℕ) → isSound (methodStep b m .comp) ≡ true
   unfolding methodStep
   method-step m = or-sound m _ (set-method-sound (compositionOf b) sound (methodOf m))
 
-  mode-step : (o : ℕ) → isSound (modeStep b o .comp) ≡ true
+  pub mode-step : (o : ℕ) → isSound (modeStep b o .comp) ≡ true
   unfolding modeStep
   mode-step o = or-sound o _ (set-enabled-sound (compositionOf b) sound (eqb o 0))
 
   pub key-kept : (key : ℕ) (out : List ℕ) → bytesSound (bytesOn b (keyStep b key out)) ≡ true
-  key-kept key out = on-sound (keyStep b key out) (key-tidy b h key out) (key-step key out)
+  key-kept key out = on-sound (keyStep b key out) (key-step key out)
 
   pub reset-kept : bytesSound (bytesOn b (resetStep b)) ≡ true
-  reset-kept = on-sound (resetStep b) (reset-tidy b h) reset-step
+  reset-kept = on-sound (resetStep b) reset-step
 
   pub literal-kept : (l : ℕ) → bytesSound (bytesOn b (literalStep b l)) ≡ true
-  literal-kept l = on-sound (literalStep b l) (literal-tidy b h l) (literal-step l)
+  literal-kept l = on-sound (literalStep b l) (literal-step l)
 
   pub pop-kept : (out : List ℕ) → bytesSound (bytesOn b (popStep b out)) ≡ true
-  pop-kept out = on-sound (popStep b out) (pop-tidy b h out) (pop-step out)
+  pop-kept out = on-sound (popStep b out) (pop-step out)
 
   pub undo-kept : (t : ℕ) (raw : List ℕ) → bytesSound (bytesOn b (undoStep b t raw)) ≡ true
-  undo-kept t raw = on-sound (undoStep b t raw) (undo-step-tidy b h t raw) (undo-step t raw)
+  undo-kept t raw = on-sound (undoStep b t raw) (undo-step t raw)
 
   pub method-kept : (m : ℕ) → bytesSound (bytesOn b (methodStep b m)) ≡ true
-  method-kept m = on-sound (methodStep b m) (method-tidy b h m) (method-step m)
+  method-kept m = on-sound (methodStep b m) (method-step m)
 
   pub mode-kept : (o : ℕ) → bytesSound (bytesOn b (modeStep b o)) ≡ true
-  mode-kept o = on-sound (modeStep b o) (mode-tidy b h o) (mode-step o)
+  mode-kept o = on-sound (modeStep b o) (mode-step o)
 
 pub new-made : (m : InputMethod) → bytesSound (bytesOf (created m)) ≡ true
-new-made m = form-sound (created m) (created-tidy m) (new-sound m)
+new-made m = written-sound (created m) (new-sound m)
 
 -- ---- every call on a composition, by name: what it leaves of the bytes b
 pub data Leaves (b : List ℕ) : List ℕ → Type 0 where

@@ -19,18 +19,17 @@ use Rattle.p2_input_method.specs.declared.InputMethod.{InputMethod}
 use Rattle.p3_cells.specs.Cells.{limit, isSound, used, holding}
 use Rattle.p3_cells.specs.Text.{shown, textOf}
 use Rattle.p3_cells.specs.Leaving.{changed}
-use Rattle.p3_cells.specs.declared.Cell.{Cell}
 use Rattle.p3_cells.specs.declared.Composition.{Composition}
 use Rattle.p3_cells.specs.declared.Mode.{Mode}
 use Rattle.p3_cells.specs.declared.Mode.the-variants.{Vietnamese}
 use Rattle.p0_refusals.specs.declared.Answer.the-variants.{Done, Refused}
 use Rattle.p3_calls.specs.Settings.{empty, created}
 use Rattle.p3_calls.proofs.Kept.{new-sound}
-use Rattle.p3_cells.proofs.Holding.{used-holding, used-length, used-cells, count-fits, length-blanks}
+use Rattle.p3_cells.proofs.Holding.{used-holding, method-held, mode-held, used-length, used-cells, count-fits}
 use Rattle.p3_step.specs.Key.{keyCells}
 use Rattle.p3_key.specs.Process.{inMode, next, written, isFull, keyOutcome, keyNext, keyed}
 use Rattle.p3_cells.specs.declared.Changed.{Changed}
-use Rattle.p3_key.proofs.Kept.{key-length, key-sound}
+use Rattle.p3_key.proofs.Kept.{key-sound}
 use Rattle.p5_utf8_write.proofs.Alphabet.{all-at}
 use Rattle.p7_line.specs.Line.{made, full, typed, typedLine, refusedLine, textLine}
 use Rattle.p3_cells.proofs.InAlphabet.{text-letters}
@@ -96,17 +95,8 @@ module _ (c : Composition) (k : ℕ) (o : List ℕ) (s : isSound c ≡ true) (v 
         rw (← writes-output _ _ (done-key key-done) o _ (room key-done) refl)
         (take-at (textOf (next c k)) (drop (length (textOf (next c k))) o) n key-count)
 
-method-held : (c : Composition) (xs : List Cell) → holding c xs .method ≡ c .method
-unfolding holding
-method-held c xs = refl
-
-mode-held : (c : Composition) (xs : List Cell) → holding c xs .mode ≡ c .mode
-unfolding holding
-mode-held c xs = refl
-
 -- ---- the line
 pub record Typing (m : InputMethod) (keys : List ℕ) (c : Composition) (text : List ℕ) (n i : ℕ) : Type 0 where
-  pub cells : length (c .cells) ≡ limit
   pub sound : isSound c ≡ true
   pub method : c .method ≡ m
   pub mode : c .mode ≡ Vietnamese
@@ -116,7 +106,7 @@ pub record Typing (m : InputMethod) (keys : List ℕ) (c : Composition) (text : 
 typing-start : (m : InputMethod) (keys text : List ℕ) → Typing m keys (created m) text 0 0
 unfolding created empty used textOf
 typing-start m keys text =
-    record { cells = length-blanks limit; sound = new-sound m; method = refl; mode = refl; rest = refl; shown = refl }
+    record { sound = new-sound m; method = refl; mode = refl; rest = refl; shown = refl }
 
 module _ (m : InputMethod) (keys : List ℕ) (c : Composition) (text : List ℕ) (n i : ℕ) (t : Typing m keys c text n i) where
   pub typing-done : length keys ≤ i → typed m [] keys ≡ made (used c)
@@ -150,8 +140,7 @@ module _ (m : InputMethod) (keys : List ℕ) (c : Composition) (text : List ℕ)
         let u : used (y .comp) ≡ next c k = ap used b ∙ used-holding c (next c k) in
         let p : y .comp ≡ keyed c k (length text) .comp = ap (λ (z : Changed). z .comp) d in
         record {
-          cells = rw p (key-length c k (length text) (t .sound) (t .cells));
-          sound = rw p (key-sound c k (length text) (t .sound) (t .cells));
+          sound = rw p (key-sound c k (length text) (t .sound));
           method = ap (λ (z : Composition). z .method) b ∙ method-held c (next c k) ∙ t .method;
           mode = ap (λ (z : Composition). z .mode) b ∙ mode-held c (next c k) ∙ t .mode;
           rest = turn ∙ rw (le-ltb limit (length (next c k)) w, u) refl;
@@ -184,7 +173,7 @@ module _ (m : InputMethod) (keys : List ℕ) (c₀ : Composition) (e : c₀ ≡ 
     pub text-fits : (length (take n text) ≤ limit) × (allLetters (take n text) ≡ true)
     unfolding textOf
     text-fits =
-        let u = used-length c (t .sound) (t .cells) in
+        let u = used-length c (t .sound) in
         let f = count-fits c (t .sound) in
         let g : length (take n text) ≡ length (used c) = ap length (t .shown) ∙ length-map (used c) shown in
-        (omega arith, ap allLetters (t .shown) ∙ text-letters (used c) (used-cells c (t .sound) (t .cells)))
+        (omega arith, ap allLetters (t .shown) ∙ text-letters (used c) (used-cells c (t .sound)))
