@@ -4,3 +4,4 @@ pub mod Arms
 pub mod Tests
 pub mod Numbers
 pub mod Only
+pub mod OnlyWalked

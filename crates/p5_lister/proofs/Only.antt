@@ -10,13 +10,17 @@ pub total-only : OneAnswer own.total.Kinds.ps own.total.Kinds.r own.total.Reads.
 total-only κs a = (tt, λ z z′ w w′ q q′. (same (q .0) (q′ .0), refl))
 
 pub word-number-only : OneAnswer own.word_number.Kinds.ps own.word_number.Kinds.r own.word_number.Reads.Asked own.word_number.Reads.Learnt
-word-number-only κs a =
-    (tt, λ z z′ w w′ q q′.
+word-number-only κs a = (
+  tt,
+  λ z z′ w w′ q q′.
       let e = one-number-outcome (a .0) (q .0) (q′ .0) (q .1) (q′ .1) in
-      (same (rw e at (q .2)) (q′ .2), λ i. (tt, (same (rw e at (q .3)) (q′ .3) i, tt))))
+      (same (rw e at (q .2)) (q′ .2), λ i. (tt, (same (rw e at (q .3)) (q′ .3) i, tt))),
+)
 
 pub next-word-only : OneAnswer own.next_word.Kinds.ps own.next_word.Kinds.r own.next_word.Reads.Asked own.next_word.Reads.Learnt
-next-word-only κs a =
-    (tt, λ z z′ w w′ q q′.
+next-word-only κs a = (
+  tt,
+  λ z z′ w w′ q q′.
       let e = one-next-outcome (now (a .0)) (q .0) (q′ .0) (q .1) (q′ .1) in
-      (same (rw e at (q .2)) (q′ .2), λ i. (tt, (same (rw e at (q .3)) (q′ .3) i, tt))))
+      (same (rw e at (q .2)) (q′ .2), λ i. (tt, (same (rw e at (q .3)) (q′ .3) i, tt))),
+)
