@@ -22,6 +22,10 @@ done-leaves : (a : Answer) (c d : Composition) (k : ℕ) → changed a c d .answ
 unfolding changed
 done-leaves a c d k e = rw e refl
 
+pub popped-leaves : (c : Composition) (m j : ℕ) → popped c m .answer ≡ Done j → popped c m .comp ≡ holding c (left c)
+unfolding popped
+popped-leaves c m j e = done-leaves (answer (popOutcome c) m) c (holding c (left c)) j e
+
 without-last : (xs : List Cell) (x : Cell) → take (length (xs ++ (x ∷ [])) - 1) (xs ++ (x ∷ [])) ≡ xs
 without-last xs x =
     let d : length (xs ++ (x ∷ [])) - 1 ≡ length xs = rw length-append (omega arith) in rw (d, take-append-seam xs (x ∷ [])) refl
@@ -38,8 +42,7 @@ module _ (c : Composition) (s : isSound c ≡ true) (n : length (c .cells) ≡ l
 
   pub literal-back : (ch k m j : ℕ) → literal c ch .answer ≡ Done k → popped (literal c ch .comp) m .answer ≡ Done j
       → popped (literal c ch .comp) m .comp ≡ c
-  unfolding literal popped
+  unfolding literal
   literal-back ch k m j e f =
       let l : literal c ch .comp ≡ holding c (used c ++ (typed ch ∷ [])) = done-leaves (answer (literalOutcome c ch) 0) c _ k e in
-      done-leaves (answer (popOutcome (literal c ch .comp)) m) (literal c ch .comp) (holding (literal c ch .comp) (left (literal c ch .comp))) j f
-      ∙ ap (λ (d : Composition). holding d (left d)) l ∙ append-back (typed ch)
+      popped-leaves (literal c ch .comp) m j f ∙ ap (λ (d : Composition). holding d (left d)) l ∙ append-back (typed ch)

@@ -8,6 +8,7 @@ use native.Mathlib.Omega.{arith}
 use lib.ListN.{length, getD}
 use lib.Seq.{getD-drop}
 use Rattle.p0_choice.specs.Choice.{pick, each}
+use Rattle.p0_choice.proofs.Choices.{pick-true}
 use Rattle.p1_letters.specs.Vowels.{isVowel}
 use Rattle.p3_cells.specs.Cells.{blank, isCell}
 use Rattle.p3_cells.specs.Text.{letterOf}
@@ -34,10 +35,14 @@ vowels-are P i (x ∷ xs) f k h =
     go true e (suc k) h g = g k (omega arith)
     go false e k h g = g k h
 
+vowels-first : (i : ℕ) (x : Cell) (xs : List Cell) → isVowel (letterOf x) ≡ true → i ∷ vowelPlaces (i + 1) xs ≡ vowelPlaces i (x ∷ xs)
+unfolding vowelPlaces
+vowels-first i x xs e = pick-true (isVowel (letterOf x)) _ _ _ e refl
+
 vowels-some : (i : ℕ) (xs : List Cell) (j : ℕ) → j < length xs → isVowel (letterOf (getD xs j blank)) ≡ true → 0 < length (vowelPlaces i xs)
 unfolding vowelPlaces
 vowels-some i [] j h e = absurd (omega arith)
-vowels-some i (x ∷ xs) zero h e = rw e (omega arith)
+vowels-some i (x ∷ xs) zero h e = let d = ap length (vowels-first i x xs e) in omega arith
 vowels-some i (x ∷ xs) (suc j) h e = go (isVowel (letterOf x)) (vowels-some (i + 1) xs j (omega arith) e)
   where
     go : (b : Bool) → 0 < length (vowelPlaces (i + 1) xs) → 0 < length (pick b (i ∷ vowelPlaces (i + 1) xs) (vowelPlaces (i + 1) xs))

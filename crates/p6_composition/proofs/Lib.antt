@@ -3,3 +3,4 @@ pub mod Tidy
 pub mod Calls
 pub mod Kept
 pub mod Counted
+pub mod Back
