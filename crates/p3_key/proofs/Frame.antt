@@ -1,6 +1,6 @@
 -- What a key leaves alone in a composition: the method and the mode stay, and the cells do or are framed.
 use Prim.Native.Nat.{ℕ}
-use mathlib.Core.Path.{_≡_, refl, sym}
+use mathlib.Core.Path.{_≡_, refl}
 use mathlib.Core.List.{List}
 use mathlib.Core.Logic.{_⊎_, inl, inr}
 use Rattle.p0_refusals.specs.Answers.{answer}

@@ -94,7 +94,8 @@ module _ (m : InputMethod) (cs : List Cell) (k : ℕ) where
   mark-nowhere e = no-mark 5 (length cs) e
 
   -- "From the last cell back over at most 5, any letters between: the first whose base with k is a rule"
-  pub mark-nearest : (j : ℕ) → (markPlace m cs k ≡ At j → MarkAt m cs k 5 (length cs) j) × (MarkAt m cs k 5 (length cs) j → markPlace m cs k ≡ At j)
+  pub mark-nearest : (j : ℕ) → (markPlace m cs k ≡ At j → MarkAt m cs k 5 (length cs) j)
+      × (MarkAt m cs k 5 (length cs) j → markPlace m cs k ≡ At j)
   unfolding markPlace
   mark-nearest j = (mark-is 5 (length cs) j, is-mark 5 (length cs) j)
 
@@ -125,7 +126,8 @@ module _ (cs : List Cell) where
       go (eqb (baseAt cs (suc i)) 111) refl (eqb (baseAt cs i) 117) refl (isVowel (baseAt cs (suc i))) refl e
       (λ (f : uoBack cs n (suc i) ≡ At j). uo-is n (suc i) j f)
     where
-      go : (a : Bool) → eqb (baseAt cs (suc i)) 111 ≡ a → (b : Bool) → eqb (baseAt cs i) 117 ≡ b → (v : Bool) → isVowel (baseAt cs (suc i)) ≡ v
+      go : (a : Bool) → eqb (baseAt cs (suc i)) 111 ≡ a → (b : Bool) → eqb (baseAt cs i) 117 ≡ b
+          → (v : Bool) → isVowel (baseAt cs (suc i)) ≡ v
           → pick a (pick b (At i) Nowhere) (pick v Nowhere (uoBack cs n (suc i))) ≡ At j
           → (uoBack cs n (suc i) ≡ At j → UoAt cs n (suc i) j) → UoAt cs (suc n) (suc (suc i)) j
       go true p true q v s e f =
@@ -157,7 +159,8 @@ module _ (cs : List Cell) where
   is-uo (suc n) (suc (suc i)) j r = go (below-or-not j i) (λ (f : UoAt cs n (suc i) j). is-uo n (suc i) j f)
     where
       go : (j < i) ⊎ (i ≤ j) → (UoAt cs n (suc i) j → uoBack cs n (suc i) ≡ At j)
-          → pick (eqb (baseAt cs (suc i)) 111) (pick (eqb (baseAt cs i) 117) (At i) Nowhere) (pick (isVowel (baseAt cs (suc i))) Nowhere (uoBack cs n (suc i))) ≡ At j
+          → pick (eqb (baseAt cs (suc i)) 111) (pick (eqb (baseAt cs i) 117) (At i) Nowhere)
+          (pick (isVowel (baseAt cs (suc i))) Nowhere (uoBack cs n (suc i))) ≡ At j
       go (inl l) g =
           let v : isVowel (baseAt cs (suc i)) ≡ false = r .between (suc i) (omega arith) (omega arith) in
           let h = r .reach in
@@ -200,10 +203,13 @@ no-after cs (suc j) f = ne-eqb (baseAt cs j) 113 (f j refl)
 ua-is : (cs : List Cell) (j : ℕ) → uaPlace cs ≡ At j → UaAt cs j
 unfolding uaPlace
 ua-is cs j e =
-    go (ltb (length cs) 2) refl (eqb (baseAt cs (length cs - 2)) 117) refl (eqb (baseAt cs (length cs - 1)) 97) refl (afterQ cs (length cs - 2)) refl e
+    go (ltb (length cs) 2) refl (eqb (baseAt cs (length cs - 2)) 117) refl (eqb (baseAt cs (length cs - 1)) 97) refl
+    (afterQ cs (length cs - 2)) refl e
   where
-    go : (s : Bool) → ltb (length cs) 2 ≡ s → (a : Bool) → eqb (baseAt cs (length cs - 2)) 117 ≡ a → (b : Bool) → eqb (baseAt cs (length cs - 1)) 97 ≡ b
-        → (q : Bool) → afterQ cs (length cs - 2) ≡ q → pick s Nowhere (pick a (pick b (pick q Nowhere (At (length cs - 2))) Nowhere) Nowhere) ≡ At j → UaAt cs j
+    go : (s : Bool) → ltb (length cs) 2 ≡ s → (a : Bool) → eqb (baseAt cs (length cs - 2)) 117 ≡ a
+        → (b : Bool) → eqb (baseAt cs (length cs - 1)) 97 ≡ b
+        → (q : Bool) → afterQ cs (length cs - 2) ≡ q
+        → pick s Nowhere (pick a (pick b (pick q Nowhere (At (length cs - 2))) Nowhere) Nowhere) ≡ At j → UaAt cs j
     go true g a h b k q l e = let z : _≡_ {A = ℕ} 0 1 = cc in absurd (omega arith)
     go false g true h true k true l e = let z : _≡_ {A = ℕ} 0 1 = cc in absurd (omega arith)
     go false g true h true k false l e =
@@ -225,7 +231,14 @@ is-ua cs j r =
     let n = r .last in
     let d : length cs - 2 ≡ j = omega arith in
     let c : length cs - 1 ≡ suc j = omega arith in
-    rw (le-ltb (length cs) 2 (omega arith), d, c, eq-eqb (baseAt cs j) 117 (r .u), eq-eqb (baseAt cs (suc j)) 97 (r .a), no-after cs j (r .noQ)) refl
+    rw (
+      le-ltb (length cs) 2 (omega arith),
+      d,
+      c,
+      eq-eqb (baseAt cs j) 117 (r .u),
+      eq-eqb (baseAt cs (suc j)) 97 (r .a),
+      no-after cs j (r .noQ),
+    ) refl
 
 pub ua-nowhere : (cs : List Cell) → uaPlace cs ≡ Nowhere → (j : ℕ) → UaAt cs j → ⊥
 ua-nowhere cs e = found (UaAt cs) (uaPlace cs) (is-ua cs) e

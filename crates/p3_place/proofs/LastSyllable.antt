@@ -54,7 +54,13 @@ more x xs s a f = go (f .start)
           before = x ∷ f .before;
           cut = ap (λ (b : List Cell). x ∷ b) (f .cut);
           none = f .none;
-          start = inr (record { earlier = x ∷ e .earlier; last = e .last; ends = ap (λ (b : List Cell). x ∷ b) (e .ends); separator = e .separator });
+          start =
+              inr (record {
+                earlier = x ∷ e .earlier;
+                last = e .last;
+                ends = ap (λ (b : List Cell). x ∷ b) (e .ends);
+                separator = e .separator;
+              });
         }
 
 pub last-follows : (cs : List Cell) → FollowsLast cs (lastSyllable cs)
@@ -66,7 +72,12 @@ last-follows (x ∷ xs) = go (anySeparates xs) refl (separates x) refl (last-fol
         → FollowsLast (x ∷ xs) (pick a (lastSyllable xs) (pick b xs (x ∷ xs)))
     go true p b q f = more x xs (lastSyllable xs) p f
     go false p true q f =
-        record { before = x ∷ []; cut = refl; none = none-at xs p; start = inr (record { earlier = []; last = x; ends = refl; separator = q }) }
+        record {
+          before = x ∷ [];
+          cut = refl;
+          none = none-at xs p;
+          start = inr (record { earlier = []; last = x; ends = refl; separator = q });
+        }
     go false p false q f = record { before = []; cut = refl; none = none-at (x ∷ xs) (rw q p); start = inl refl }
 
 -- ---- and nothing else

@@ -87,7 +87,8 @@ tone-vowel cs i s =
     let l = s .from in
     let b = s .below in
     let d : syllableStart cs + (i - syllableStart cs) ≡ i = omega arith in
-    let v : isVowel (letterOf (getD (lastSyllable cs) (i - syllableStart cs) blank)) ≡ true = rw (syllable-at cs (i - syllableStart cs), d) (s .vowel) in
+    let v : isVowel (letterOf (getD (lastSyllable cs) (i - syllableStart cs) blank)) ≡ true =
+    rw (syllable-at cs (i - syllableStart cs), d) (s .vowel) in
     place-is (SyllableVowel cs) cs (lastSyllable cs) (syllableStart cs) (vowelPlaces (syllableStart cs) (lastSyllable cs))
     (vowels-some (syllableStart cs) (lastSyllable cs) (i - syllableStart cs) (omega arith) v)
     (vowels-are (SyllableVowel cs) (syllableStart cs) (lastSyllable cs) (in-syllable cs))

@@ -39,7 +39,8 @@ module _ (p : Cell → Bool) (cs : List Cell) where
   last-is zero i e = let z : _≡_ {A = ℕ} 0 1 = cc in absurd (omega arith)
   last-is (suc n) i e = go (p (getD cs n blank)) refl e (λ (f : lastWith p cs n ≡ At i). last-is n i f)
     where
-      go : (t : Bool) → p (getD cs n blank) ≡ t → pick t (At n) (lastWith p cs n) ≡ At i → (lastWith p cs n ≡ At i → LastCell p cs n i) → LastCell p cs (suc n) i
+      go : (t : Bool) → p (getD cs n blank) ≡ t → pick t (At n) (lastWith p cs n) ≡ At i → (lastWith p cs n ≡ At i → LastCell p cs n i)
+          → LastCell p cs (suc n) i
       go true q e f = let d : n ≡ i = cc in record { below = omega arith; fits = rw d at q; later = λ j l h. absurd (omega arith) }
       go false q e f =
           let r = f e in
@@ -66,7 +67,8 @@ module _ (p : Cell → Bool) (cs : List Cell) where
   last-none : (n : ℕ) → lastWith p cs n ≡ Nowhere → NoCell p cs n
   unfolding lastWith
   last-none zero e j h = absurd (omega arith)
-  last-none (suc n) e j h = go (p (getD cs n blank)) refl e (below-or-not j n) (λ (f : lastWith p cs n ≡ Nowhere) (b : j < n). last-none n f j b)
+  last-none (suc n) e j h =
+      go (p (getD cs n blank)) refl e (below-or-not j n) (λ (f : lastWith p cs n ≡ Nowhere) (b : j < n). last-none n f j b)
     where
       go : (t : Bool) → p (getD cs n blank) ≡ t → pick t (At n) (lastWith p cs n) ≡ Nowhere → (j < n) ⊎ (n ≤ j)
           → (lastWith p cs n ≡ Nowhere → j < n → p (getD cs j blank) ≡ false) → p (getD cs j blank) ≡ false

@@ -21,11 +21,11 @@ unfolding holding
 held-alike c d xs m o = rw (m, o) refl
 
 module _ (c : Composition) (s : isSound c ≡ true) (n : length (c .cells) ≡ limit) where
-  pub key-back : (key r m j : ℕ) (x : Cell) → used (keyed c key r .comp) ≡ used c ++ (x ∷ []) → popped (keyed c key r .comp) m .answer ≡ Done j
-      → popped (keyed c key r .comp) m .comp ≡ c
+  pub key-back : (key r m j : ℕ) (x : Cell) → used (keyed c key r .comp) ≡ used c ++ (x ∷ [])
+      → popped (keyed c key r .comp) m .answer ≡ Done j → popped (keyed c key r .comp) m .comp ≡ c
   key-back key r m j x u e =
       let f = keyed-frame c key r in
       let l : keyed c key r .comp ≡ holding c (used c ++ (x ∷ [])) =
-          holding-used (keyed c key r .comp) (key-sound c key r s n) (key-length c key r s n) ∙ ap (holding (keyed c key r .comp)) u
-          ∙ held-alike c (keyed c key r .comp) (used c ++ (x ∷ [])) (f .method) (f .mode) in
+      holding-used (keyed c key r .comp) (key-sound c key r s n) (key-length c key r s n) ∙ ap (holding (keyed c key r .comp)) u
+      ∙ held-alike c (keyed c key r .comp) (used c ++ (x ∷ [])) (f .method) (f .mode) in
       popped-leaves (keyed c key r .comp) m j e ∙ ap (λ (d : Composition). holding d (left d)) l ∙ append-back c s n x
