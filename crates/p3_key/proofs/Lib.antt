@@ -6,3 +6,4 @@ pub mod Owner
 pub mod Kept
 pub mod Only
 pub mod Room
+pub mod Frame

@@ -1,8 +1,8 @@
 -- The places of uo, ua and mark in document 01's words: a place is found exactly where it is within reach, fits, and nothing
--- nearer to the end fits.
+-- nearer to the end fits; and where none is found, none within reach fits.
 use Prim.Native.Nat.{ℕ, zero, suc, _+_, _-_, _<_, _≤_}
 use Prim.Native.Char.{code}
-use mathlib.Core.Path.{_≡_, refl, sym, ap}
+use mathlib.Core.Path.{_≡_, refl, sym, ap, _∙_}
 use mathlib.Core.Bool.{Bool, true, false}
 use mathlib.Core.List.{List}
 use mathlib.Core.Logic.{_⊎_, inl, inr}
@@ -18,6 +18,7 @@ use Rattle.p1_letters.specs.Vowels.{vowels, isVowel}
 use Rattle.p2_input_method.specs.Rules.{markFor}
 use Rattle.p2_input_method.specs.declared.InputMethod.{InputMethod}
 use Rattle.p3_cells.specs.declared.Cell.{Cell}
+use Rattle.p3_cells.specs.declared.Place.{Place}
 use Rattle.p3_cells.specs.declared.Place.the-variants.{Nowhere, At}
 use Rattle.p3_marks.specs.Uo.{baseAt, uoBack, uoPlace}
 use Rattle.p3_marks.specs.Ua.{afterQ, uaPlace}
@@ -75,10 +76,33 @@ module _ (m : InputMethod) (cs : List Cell) (k : ℕ) where
           let f : markFor m (baseAt cs i) k ≡ 0 → ⊥ = rw d at (r .rule) in
           rw (ne-eqb (markFor m (baseAt cs i) k) 0 f) (ap At (sym d))
 
+  no-mark : (n i : ℕ) → markBack m cs k n i ≡ Nowhere → (p : ℕ) → p < i → i ≤ p + n → markFor m (baseAt cs p) k ≡ 0
+  unfolding markBack
+  no-mark zero i e p h l = absurd (omega arith)
+  no-mark (suc n) zero e p h l = absurd (omega arith)
+  no-mark (suc n) (suc i) e p h l =
+      go (eqb (markFor m (baseAt cs i) k) 0) refl e (below-or-not p i)
+      (λ (f : markBack m cs k n i ≡ Nowhere) (b : p < i). no-mark n i f p b (omega arith))
+    where
+      go : (t : Bool) → eqb (markFor m (baseAt cs i) k) 0 ≡ t → pick t (markBack m cs k n i) (At i) ≡ Nowhere → (p < i) ⊎ (i ≤ p)
+          → (markBack m cs k n i ≡ Nowhere → p < i → markFor m (baseAt cs p) k ≡ 0) → markFor m (baseAt cs p) k ≡ 0
+      go true q f (inl b) g = g f b
+      go true q f (inr b) g = let d : p ≡ i = omega arith in rw d (eqb-true (markFor m (baseAt cs i) k) 0 q)
+      go false q f b g = let z : _≡_ {A = ℕ} 0 1 = cc in absurd (omega arith)
+
+  pub mark-nowhere : markPlace m cs k ≡ Nowhere → (p : ℕ) → p < length cs → length cs ≤ p + 5 → markFor m (baseAt cs p) k ≡ 0
+  unfolding markPlace
+  mark-nowhere e = no-mark 5 (length cs) e
+
   -- "From the last cell back over at most 5, any letters between: the first whose base with k is a rule"
-  pub mark-nearest : (j : ℕ) → (markPlace m cs k ≡ At j → MarkAt m cs k 5 (length cs) j) × (MarkAt m cs k 5 (length cs) j → markPlace m cs k ≡ At j)
+  pub mark-nearest : (j : ℕ) → (markPlace m cs k ≡ At j → MarkAt m cs k 5 (length cs) j)
+      × (MarkAt m cs k 5 (length cs) j → markPlace m cs k ≡ At j)
   unfolding markPlace
   mark-nearest j = (mark-is 5 (length cs) j, is-mark 5 (length cs) j)
+
+-- where a place would be found, one is
+found : (P : ℕ → Type 0) (p : Place) → ((j : ℕ) → P j → p ≡ At j) → p ≡ Nowhere → (j : ℕ) → P j → ⊥
+found P p f e j h = let d : At j ≡ Nowhere = sym (f j h) ∙ e in let z : _≡_ {A = ℕ} 0 1 = cc in omega arith
 
 -- ---- *uo.* Of the last n of the first i cells one is an o after a u, at place j, and no vowel stands between it and the end.
 pub record UoAt (cs : List Cell) (n i j : ℕ) : Type 0 where
@@ -103,7 +127,8 @@ module _ (cs : List Cell) where
       go (eqb (baseAt cs (suc i)) 111) refl (eqb (baseAt cs i) 117) refl (isVowel (baseAt cs (suc i))) refl e
       (λ (f : uoBack cs n (suc i) ≡ At j). uo-is n (suc i) j f)
     where
-      go : (a : Bool) → eqb (baseAt cs (suc i)) 111 ≡ a → (b : Bool) → eqb (baseAt cs i) 117 ≡ b → (v : Bool) → isVowel (baseAt cs (suc i)) ≡ v
+      go : (a : Bool) → eqb (baseAt cs (suc i)) 111 ≡ a → (b : Bool) → eqb (baseAt cs i) 117 ≡ b
+          → (v : Bool) → isVowel (baseAt cs (suc i)) ≡ v
           → pick a (pick b (At i) Nowhere) (pick v Nowhere (uoBack cs n (suc i))) ≡ At j
           → (uoBack cs n (suc i) ≡ At j → UoAt cs n (suc i) j) → UoAt cs (suc n) (suc (suc i)) j
       go true p true q v s e f =
@@ -135,7 +160,8 @@ module _ (cs : List Cell) where
   is-uo (suc n) (suc (suc i)) j r = go (below-or-not j i) (λ (f : UoAt cs n (suc i) j). is-uo n (suc i) j f)
     where
       go : (j < i) ⊎ (i ≤ j) → (UoAt cs n (suc i) j → uoBack cs n (suc i) ≡ At j)
-          → pick (eqb (baseAt cs (suc i)) 111) (pick (eqb (baseAt cs i) 117) (At i) Nowhere) (pick (isVowel (baseAt cs (suc i))) Nowhere (uoBack cs n (suc i))) ≡ At j
+          → pick (eqb (baseAt cs (suc i)) 111) (pick (eqb (baseAt cs i) 117) (At i) Nowhere)
+          (pick (isVowel (baseAt cs (suc i))) Nowhere (uoBack cs n (suc i))) ≡ At j
       go (inl l) g =
           let v : isVowel (baseAt cs (suc i)) ≡ false = r .between (suc i) (omega arith) (omega arith) in
           let h = r .reach in
@@ -147,6 +173,10 @@ module _ (cs : List Cell) where
           let o : baseAt cs (suc i) ≡ 111 = rw d at (r .o) in
           let u : baseAt cs i ≡ 117 = rw d at (r .u) in
           rw (eq-eqb (baseAt cs (suc i)) 111 o, eq-eqb (baseAt cs i) 117 u) (ap At (sym d))
+
+  pub uo-nowhere : uoPlace cs ≡ Nowhere → (j : ℕ) → UoAt cs 5 (length cs) j → ⊥
+  unfolding uoPlace
+  uo-nowhere e = found (UoAt cs 5 (length cs)) (uoPlace cs) (is-uo 5 (length cs)) e
 
   -- "From the last cell back, at most 5 cells and never the first cell, by base: an o after a u makes the pair .. Any other
   -- vowel ends the step."
@@ -174,10 +204,13 @@ no-after cs (suc j) f = ne-eqb (baseAt cs j) 113 (f j refl)
 ua-is : (cs : List Cell) (j : ℕ) → uaPlace cs ≡ At j → UaAt cs j
 unfolding uaPlace
 ua-is cs j e =
-    go (ltb (length cs) 2) refl (eqb (baseAt cs (length cs - 2)) 117) refl (eqb (baseAt cs (length cs - 1)) 97) refl (afterQ cs (length cs - 2)) refl e
+    go (ltb (length cs) 2) refl (eqb (baseAt cs (length cs - 2)) 117) refl (eqb (baseAt cs (length cs - 1)) 97) refl
+    (afterQ cs (length cs - 2)) refl e
   where
-    go : (s : Bool) → ltb (length cs) 2 ≡ s → (a : Bool) → eqb (baseAt cs (length cs - 2)) 117 ≡ a → (b : Bool) → eqb (baseAt cs (length cs - 1)) 97 ≡ b
-        → (q : Bool) → afterQ cs (length cs - 2) ≡ q → pick s Nowhere (pick a (pick b (pick q Nowhere (At (length cs - 2))) Nowhere) Nowhere) ≡ At j → UaAt cs j
+    go : (s : Bool) → ltb (length cs) 2 ≡ s → (a : Bool) → eqb (baseAt cs (length cs - 2)) 117 ≡ a
+        → (b : Bool) → eqb (baseAt cs (length cs - 1)) 97 ≡ b
+        → (q : Bool) → afterQ cs (length cs - 2) ≡ q
+        → pick s Nowhere (pick a (pick b (pick q Nowhere (At (length cs - 2))) Nowhere) Nowhere) ≡ At j → UaAt cs j
     go true g a h b k q l e = let z : _≡_ {A = ℕ} 0 1 = cc in absurd (omega arith)
     go false g true h true k true l e = let z : _≡_ {A = ℕ} 0 1 = cc in absurd (omega arith)
     go false g true h true k false l e =
@@ -199,7 +232,17 @@ is-ua cs j r =
     let n = r .last in
     let d : length cs - 2 ≡ j = omega arith in
     let c : length cs - 1 ≡ suc j = omega arith in
-    rw (le-ltb (length cs) 2 (omega arith), d, c, eq-eqb (baseAt cs j) 117 (r .u), eq-eqb (baseAt cs (suc j)) 97 (r .a), no-after cs j (r .noQ)) refl
+    rw (
+      le-ltb (length cs) 2 (omega arith),
+      d,
+      c,
+      eq-eqb (baseAt cs j) 117 (r .u),
+      eq-eqb (baseAt cs (suc j)) 97 (r .a),
+      no-after cs j (r .noQ),
+    ) refl
+
+pub ua-nowhere : (cs : List Cell) → uaPlace cs ≡ Nowhere → (j : ℕ) → UaAt cs j → ⊥
+ua-nowhere cs e = found (UaAt cs) (uaPlace cs) (is-ua cs) e
 
 -- "Last two bases u a, no q before"
 pub ua-exactly : (cs : List Cell) (j : ℕ) → (uaPlace cs ≡ At j → UaAt cs j) × (UaAt cs j → uaPlace cs ≡ At j)

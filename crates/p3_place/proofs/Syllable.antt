@@ -20,7 +20,7 @@ unfolding separates letterOf
 separates-bare x = refl
 
 -- ---- what follows the last one
-neither : (a b : Bool) → pick a true b ≡ false → (a ≡ false) × (b ≡ false)
+pub neither : (a b : Bool) → pick a true b ≡ false → (a ≡ false) × (b ≡ false)
 neither true b e = let z : _≡_ {A = ℕ} 0 1 = cc in absurd (omega arith)
 neither false b e = (refl, e)
 

@@ -90,6 +90,11 @@ module _ (b : List ℕ) (h : bytesSound b ≡ true) where
 pub new-made : (m : InputMethod) → bytesSound (bytesOf (created m)) ≡ true
 new-made m = written-sound (created m) (new-sound m)
 
+-- whatever the bytes were before it
+pub new-makes-sound : (b : List ℕ) (m n : ℕ) → newOn b m ≡ Done n → bytesSound (newBytes b m) ≡ true
+unfolding newBytes
+new-makes-sound b m n e = rw e (new-made (methodOf m))
+
 -- ---- every call on a composition, by name: what it leaves of the bytes b
 pub data Leaves (b : List ℕ) : List ℕ → Type 0 where
   byNew : (m : ℕ) → Leaves b (newBytes b m)
