@@ -4,7 +4,7 @@ use mathlib.Core.Path.{_≡_, refl, sym, ap, _∙_}
 use mathlib.Core.List.{List}
 use lib.ListN.{length}
 use Rattle.p0_refusals.specs.Answers.{Outcome, refusalOf, answer, output}
-use Rattle.p0_refusals.proofs.Only.{OneAnswer}
+use Rattle.p0_choice.proofs.Only.{OneAnswer}
 use Rattle.p5_lister.proofs.Meaning.{one-number-outcome, one-next-outcome}
 use Rattle.p6_host.specs.Counts.{countOut}
 use Rattle.p6_host.proofs.composition.pasdrongel_composition_bytes as composition-bytes
