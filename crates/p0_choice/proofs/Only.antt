@@ -9,7 +9,7 @@ use denote.Triple.Clauses.{Lasts, atExit}
 use borrow.Fn.Kinds.{PK, RK, In, Out, Dens, resT, endedOf}
 
 module _ {n : ℕ} (ps : List (PK n)) (r : RK n) (Asked : In n ps) (Learnt : Out n ps r) where
-  -- two results, and two last contents of each lent place, that meet the `ensures` are the same
+  -- two results, and two last contents of each lent place, that meet the `ensures` are the alike
   abbrev pub Fixed : (κs : Lfts n) (a : Dens κs ps) → (resT r κs .Denot → resT r κs .Denot → Type 0) → Type 0
   Fixed κs a Same =
       (z z′ : resT r κs .Denot) (w w′ : Lasts (endedOf n ps r) κs a)
@@ -29,5 +29,5 @@ module _ {n : ℕ} (ps : List (PK n)) (r : RK n) (Asked : In n ps) (Learnt : Out
   OneContent content = (κs : Lfts n) (a : Dens κs ps) → Asked κs a × Fixed κs a (λ z z′. content κs z ≡ content κs z′)
 
 -- what two answers are told to be, they both are
-pub same : {A : Type 0} {x y z : A} → x ≡ z → y ≡ z → x ≡ y
-same p q = p ∙ sym q
+pub alike : {A : Type 0} {x y z : A} → x ≡ z → y ≡ z → x ≡ y
+alike p q = p ∙ sym q

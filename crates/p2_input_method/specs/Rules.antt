@@ -46,10 +46,6 @@ markRules Vni =
     markRule "d9" "đ" ∷
     []
 
--- what stands past the last rule
-abbrev pub noRule : MarkRule
-noRule = record { first = 0; key = 0; result = 0 }
-
 -- the result of the first rule whose pattern is the base b with the key k; 0 where there is none
 unfoldable pub markIn : List MarkRule → ℕ → ℕ → ℕ
 markIn [] b k = 0

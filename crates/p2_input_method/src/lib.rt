@@ -1,7 +1,8 @@
 // The two input methods (input_method.rs): tone keys, and mark rules in order.
 ghost use mathlib.Core.Path.{_≡_};
 ghost use lib.ListN.{getD};
-ghost use Rattle.p2_input_method.specs.Rules.{isToneKey, markRules, noRule, markFor, isHornKey};
+ghost use Rattle.p2_input_method.specs.Rules.{isToneKey, markRules, markFor, isHornKey};
+ghost use Rattle.p2_input_method.specs.Mirror.{noRule};
 ghost use Rattle.p2_input_method.specs.declared.InputMethod.the-variants.{Telex, Vni};
 
 pub enum InputMethod {

@@ -14,7 +14,7 @@ use Rattle.p3_cells.specs.declared.Composition.{Composition}
 use Rattle.p3_cells.proofs.Holding.{used-holding, holding-again, holding-used}
 use Rattle.p3_cells.proofs.Leaving.{done-leaves}
 use Rattle.p3_calls.specs.Literal.{literalOutcome, literal}
-use Rattle.p3_calls.specs.Output.{left, popOutcome, popped}
+use Rattle.p3_calls.specs.Output.{left, removalOutcome, removed}
 
 without-last : (xs : List Cell) (x : Cell) → take (length (xs ++ (x ∷ [])) - 1) (xs ++ (x ∷ [])) ≡ xs
 without-last xs x =
@@ -30,14 +30,14 @@ module _ (c : Composition) (s : isSound c ≡ true) where
   append-back x = rw (left-appended x) (holding-again c (used c ++ (x ∷ [])) (used c) ∙ sym (holding-used c s))
 
   -- the removal, whichever call made d of it
-  pub removal-back : (x : Cell) (d : Composition) → d ≡ holding c (used c ++ (x ∷ [])) → (m j : ℕ) → popped d m .answer ≡ Done j
-      → popped d m .comp ≡ c
-  unfolding popped
+  pub removal-back : (x : Cell) (d : Composition) → d ≡ holding c (used c ++ (x ∷ [])) → (m j : ℕ) → removed d m .answer ≡ Done j
+      → removed d m .comp ≡ c
+  unfolding removed
   removal-back x d e m j f =
-      done-leaves (answer (popOutcome d) m) d (holding d (left d)) j f ∙ ap (λ (d : Composition). holding d (left d)) e ∙ append-back x
+      done-leaves (answer (removalOutcome d) m) d (holding d (left d)) j f ∙ ap (λ (d : Composition). holding d (left d)) e ∙ append-back x
 
-  pub literal-back : (ch k m j : ℕ) → literal c ch .answer ≡ Done k → popped (literal c ch .comp) m .answer ≡ Done j
-      → popped (literal c ch .comp) m .comp ≡ c
+  pub literal-back : (ch k m j : ℕ) → literal c ch .answer ≡ Done k → removed (literal c ch .comp) m .answer ≡ Done j
+      → removed (literal c ch .comp) m .comp ≡ c
   unfolding literal
   literal-back ch k m j e f =
       removal-back (typed ch) (literal c ch .comp) (done-leaves (answer (literalOutcome c ch) 0) c _ k e) m j f

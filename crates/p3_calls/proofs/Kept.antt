@@ -23,7 +23,7 @@ use Rattle.p3_cells.proofs.Holding.{length-blanks, blanks-at, count-fits, used-
 use Rattle.p3_cells.proofs.Soundness.{is-sound, sound-cells}
 use Rattle.p3_calls.specs.Settings.{empty, created, settled, resetTo, methodSet, turned, enabledSet}
 use Rattle.p3_calls.specs.Literal.{literalOutcome, literal}
-use Rattle.p3_calls.specs.Output.{left, popOutcome, popped}
+use Rattle.p3_calls.specs.Output.{left, removalOutcome, removed}
 
 abbrev Sound : Composition → Type 0
 Sound c = isSound c ≡ true
@@ -83,10 +83,10 @@ module _ (c : Composition) (s : isSound c ≡ true) where
       (each-append isCell (used c) (typed ch) (used-cells c s) (typed-cell ch (f .0))))
 
   -- ---- the removal
-  pub pop-sound : (m : ℕ) → isSound (popped c m .comp) ≡ true
-  unfolding popped left
+  pub pop-sound : (m : ℕ) → isSound (removed c m .comp) ≡ true
+  unfolding removed left
   pop-sound m =
       let l : length (take (length (used c) - 1) (used c)) ≤ limit
       = omega (arith, length-take (length (used c) - 1) (used c), used-length c s, count-fits c s) in
-      changed-keeps Sound (answer (popOutcome c) m) c _ s
+      changed-keeps Sound (answer (removalOutcome c) m) c _ s
       (λ k e. holding-sound c (left c) l (each-take isCell (length (used c) - 1) (used c) (used-cells c s)))

@@ -37,7 +37,8 @@ module _ (c : Composition) (ch : ℕ) (s : Bool) (e : s ≡ isSound c) where
       literal-done l = rw (used-length c whole, lt-ltb (c .count) limit l, ← e, not-false s h, ← f, not-false v k) refl
 
       pub literal-appended : (x : Cell) → c .count < limit → x ≡ typed ch
-          → record { cells = set (c .cells) (c .count) x; method = c .method; mode = c .mode; count = c .count + 1 } ≡ holding c (used c ++ (typed ch ∷ []))
+          → record { cells = set (c .cells) (c .count) x; method = c .method; mode = c .mode; count = c .count + 1 } ≡ holding c
+          (used c ++ (typed ch ∷ []))
       literal-appended x l q = rw (holding-append c whole x l, q) refl
 
 pub ruleset literals = (literal-unsound, literal-foreign, literal-full, literal-done, literal-appended)

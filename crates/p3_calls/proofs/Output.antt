@@ -12,14 +12,14 @@ use Rattle.p0_refusals.specs.declared.Answer.the-variants.{Done, Refused}
 use Rattle.p0_refusals.specs.declared.Refusal.the-variants.{Short, Empty, Unsound}
 use Rattle.p0_refusals.proofs.Answers.{refuses-answer, refuses-output, short-answer, short-output, writes-answer, writes-output}
 use Rattle.p3_cells.specs.Cells.{limit, blank, isSound, used, holding}
-use Rattle.p3_cells.specs.Leaving.{refused}
+use Rattle.p3_cells.specs.Leaving.{refusing}
 use Rattle.p3_cells.specs.Text.{shown, textOf}
 use Rattle.p3_cells.specs.declared.Cell.{Cell}
-use Rattle.p3_cells.specs.declared.Changed.{Changed}
+use Rattle.p3_cells.specs.declared.After.{After}
 use Rattle.p3_cells.specs.declared.Composition.{Composition}
 use Rattle.p3_cells.proofs.Holding.{count-fits, used-length, used-holding, holding-less}
 use Rattle.p3_cells.proofs.Leaving.{changed-refused, changed-short, changed-done}
-use Rattle.p3_calls.specs.Output.{textOutcome, left, popOutcome, popped}
+use Rattle.p3_calls.specs.Output.{textOutcome, left, removalOutcome, removed}
 
 length-text : (xs : List Cell) → length (textOf xs) ≡ length xs
 unfolding textOf
@@ -37,15 +37,15 @@ module _ (c : Composition) (s : Bool) (e : s ≡ isSound c) where
     pub text-unsound-out : (o : List ℕ) → o ≡ output (textOutcome c) o
     text-unsound-out o = refuses-output _ _ text-no o
 
-    pop-no : popOutcome c ≡ refuses Unsound
-    unfolding popOutcome
+    pop-no : removalOutcome c ≡ refuses Unsound
+    unfolding removalOutcome
     pop-no = rw (← e, not-true s h) refl
 
-    pub pop-unsound : (n : ℕ) (k : Changed) → k ≡ refused c Unsound → k ≡ popped c n
-    unfolding popped
+    pub pop-unsound : (n : ℕ) (k : After) → k ≡ refusing c Unsound → k ≡ removed c n
+    unfolding removed
     pop-unsound n k q = changed-refused _ c _ n _ k pop-no q
 
-    pub pop-unsound-out : (o : List ℕ) → o ≡ output (popOutcome c) o
+    pub pop-unsound-out : (o : List ℕ) → o ≡ output (removalOutcome c) o
     pop-unsound-out o = refuses-output _ _ pop-no o
 
   module _ (h : not s ≡ false) where
@@ -87,15 +87,15 @@ module _ (c : Composition) (s : Bool) (e : s ≡ isSound c) where
 
     -- ---- removal
     module _ (z : c .count ≡ 0) where
-      pop-none : popOutcome c ≡ refuses Empty
-      unfolding popOutcome
+      pop-none : removalOutcome c ≡ refuses Empty
+      unfolding removalOutcome
       pop-none = rw (whole, count, eq-eqb (c .count) 0 z) refl
 
-      pub pop-empty : (m : ℕ) (k : Changed) → k ≡ refused c Empty → k ≡ popped c m
-      unfolding popped
+      pub pop-empty : (m : ℕ) (k : After) → k ≡ refusing c Empty → k ≡ removed c m
+      unfolding removed
       pop-empty m k q = changed-refused _ c _ m _ k pop-none q
 
-      pub pop-empty-out : (o : List ℕ) → o ≡ output (popOutcome c) o
+      pub pop-empty-out : (o : List ℕ) → o ≡ output (removalOutcome c) o
       pop-empty-out o = refuses-output _ _ pop-none o
 
     left-is : left c ≡ take (c .count - 1) (used c)
@@ -103,18 +103,18 @@ module _ (c : Composition) (s : Bool) (e : s ≡ isSound c) where
     left-is = rw count refl
 
     module _ (z : c .count ≡ 0 → ⊥) where
-      pop-writes : popOutcome c ≡ writes (textOf (left c))
-      unfolding popOutcome
+      pop-writes : removalOutcome c ≡ writes (textOf (left c))
+      unfolding removalOutcome
       pop-writes = rw (whole, count, ne-eqb (c .count) 0 z) refl
 
       less : length (textOf (left c)) ≡ c .count - 1
       less = length-text (left c) ∙ rw left-is (length-take-le (c .count - 1) (used c) (omega (arith, count)))
 
-      pub pop-short : (m : ℕ) (k : Changed) → m < c .count - 1 → k ≡ refused c Short → k ≡ popped c m
-      unfolding popped
+      pub pop-short : (m : ℕ) (k : After) → m < c .count - 1 → k ≡ refusing c Short → k ≡ removed c m
+      unfolding removed
       pop-short m k l q = changed-short _ c _ m _ k pop-writes (rw less l) q
 
-      pub pop-short-out : (o : List ℕ) → length o < c .count - 1 → o ≡ output (popOutcome c) o
+      pub pop-short-out : (o : List ℕ) → length o < c .count - 1 → o ≡ output (removalOutcome c) o
       pop-short-out o l = short-output _ _ pop-writes o (rw less l)
 
       -- with x for its last cell, and one cell less
@@ -125,12 +125,12 @@ module _ (c : Composition) (s : Bool) (e : s ≡ isSound c) where
       shorter-is x b = rw (b, left-is) (holding-less c whole (omega arith))
 
       pub pop-done : (m r : ℕ) (x : Cell) → x ≡ blank → c .count - 1 ≤ m → r ≡ c .count - 1
-          → record { comp = shorter x; answer = Done r } ≡ popped c m
-      unfolding popped
+          → record { comp = shorter x; answer = Done r } ≡ removed c m
+      unfolding removed
       pop-done m r x b l q = changed-done _ c _ m _ (shorter x) r pop-writes (rw less l) (rw less q) (shorter-is x b)
 
       pub pop-done-out : (o out : List ℕ) (x : Cell) → x ≡ blank → c .count - 1 ≤ length o
-          → out ≡ textOf (used (shorter x)) ++ drop (c .count - 1) o → out ≡ output (popOutcome c) o
+          → out ≡ textOf (used (shorter x)) ++ drop (c .count - 1) o → out ≡ output (removalOutcome c) o
       pop-done-out o out x b l q =
           writes-output _ _ pop-writes o out (rw less l) (rw less (rw (shorter-is x b, used-holding c (left c)) at q))
 

@@ -16,7 +16,7 @@ use Rattle.p3_cells.specs.Text.{shown, textOf}
 use Rattle.p3_cells.specs.declared.Cell.{Cell}
 use Rattle.p3_cells.specs.declared.Composition.{Composition}
 use Rattle.p3_cells.proofs.Holding.{used-few, count-fits}
-use Rattle.p3_calls.specs.Output.{textOutcome, left, popOutcome}
+use Rattle.p3_calls.specs.Output.{textOutcome, left, removalOutcome}
 
 text-short : (xs : List Cell) (k : ℕ) → length xs ≤ k → length (textOf xs) ≤ k
 unfolding textOf
@@ -34,8 +34,8 @@ module _ (c : Composition) where
       go true s = text-short (used c) limit (used-short s)
       go false s = λ e. let z : _≡_ {A = ℕ} 0 1 = cc in omega arith
 
-  pop-fits : Fits limit (popOutcome c)
-  unfolding popOutcome left
+  pop-fits : Fits limit (removalOutcome c)
+  unfolding removalOutcome left
   pop-fits = go (isSound c) refl (eqb (length (used c)) 0)
     where
       go : (s : Bool) → isSound c ≡ s → (b : Bool)
@@ -48,5 +48,5 @@ module _ (c : Composition) where
   pub text-room : (n : ℕ) → limit ≤ n → answer (textOutcome c) n ≡ Refused Short → ⊥
   text-room n h = enough (textOutcome c) limit n text-fits h
 
-  pub pop-room : (n : ℕ) → limit ≤ n → answer (popOutcome c) n ≡ Refused Short → ⊥
-  pop-room n h = enough (popOutcome c) limit n pop-fits h
+  pub pop-room : (n : ℕ) → limit ≤ n → answer (removalOutcome c) n ≡ Refused Short → ⊥
+  pop-room n h = enough (removalOutcome c) limit n pop-fits h

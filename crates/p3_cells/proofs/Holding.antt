@@ -108,8 +108,10 @@ holding-sound c xs h e =
     is-sound (holding c xs) (record {
       whole = length-holding c xs h;
       few = h;
-      inUse = λ i l. rw (List·getD-append xs (blanks (limit - length xs)) blank i l) (cell-is (getD xs i blank) (each-at isCell blank xs e i l));
-      past = λ i l k. let d : i ≡ length xs + (i - length xs) = omega arith in rw (d, getD-append-add) (blanks-at (limit - length xs) (i - length xs));
+      inUse = λ i l. rw (List·getD-append xs (blanks (limit - length xs)) blank i l)
+          (cell-is (getD xs i blank) (each-at isCell blank xs e i l));
+      past = λ i l k. let d : i ≡ length xs + (i - length xs) = omega arith in
+          rw (d, getD-append-add) (blanks-at (limit - length xs) (i - length xs));
     })
 
 module _ (c : Composition) (s : isSound c ≡ true) where
@@ -127,18 +129,21 @@ module _ (c : Composition) (s : isSound c ≡ true) where
 
   -- one more cell
   pub holding-append : (x : Cell) → c .count < limit
-      → record { cells = set (c .cells) (c .count) x; method = c .method; mode = c .mode; count = c .count + 1 } ≡ holding c (used c ++ (x ∷ []))
+      → record { cells = set (c .cells) (c .count) x; method = c .method; mode = c .mode; count = c .count + 1 } ≡ holding c
+      (used c ++ (x ∷ []))
   holding-append x h =
       let u = used-length c s in
       let d : limit - c .count ≡ suc (limit - (c .count + 1)) = omega arith in
       made c (used c ++ (x ∷ [])) (set (c .cells) (c .count) x) (c .count + 1)
       (ap (λ (l : List Cell). set l (c .count) x) (parted c s ∙ ap (λ (m : ℕ). used c ++ blanks m) d)
-      ∙ set-at (used c) blank (blanks (limit - (c .count + 1))) x (c .count) u ∙ sym (append-assoc (used c) (x ∷ []) (blanks (limit - (c .count + 1)))))
+      ∙ set-at (used c) blank (blanks (limit - (c .count + 1))) x (c .count) u
+      ∙ sym (append-assoc (used c) (x ∷ []) (blanks (limit - (c .count + 1)))))
       (rw length-append (omega arith))
 
   -- one cell less, "Removing the last cell blanks it."
   pub holding-less : 0 < c .count
-      → record { cells = set (c .cells) (c .count - 1) blank; method = c .method; mode = c .mode; count = c .count - 1 } ≡ holding c (take (c .count - 1) (used c))
+      → record { cells = set (c .cells) (c .count - 1) blank; method = c .method; mode = c .mode; count = c .count - 1 } ≡ holding c
+      (take (c .count - 1) (used c))
   holding-less h =
       let u = used-length c s in
       let f = count-fits c s in
@@ -149,7 +154,8 @@ module _ (c : Composition) (s : isSound c ≡ true) where
       made c (take (c .count - 1) (used c)) (set (c .cells) (c .count - 1) blank) (c .count - 1)
       (ap (λ (l : List Cell). set l (c .count - 1) blank) (parted c s)
       ∙ set-append-left (used c) (blanks (limit - c .count)) (c .count - 1) blank l
-      ∙ ap (λ (l : List Cell). l ++ blanks (limit - c .count)) (set-split (used c) (c .count - 1) blank l ∙ ap (λ (l : List Cell). take (c .count - 1) (used c) ++ blank ∷ l) z)
+      ∙ ap (λ (l : List Cell). l ++ blanks (limit - c .count))
+      (set-split (used c) (c .count - 1) blank l ∙ ap (λ (l : List Cell). take (c .count - 1) (used c) ++ blank ∷ l) z)
       ∙ append-assoc (take (c .count - 1) (used c)) (blank ∷ []) (blanks (limit - c .count))
       ∙ ap (λ (m : ℕ). take (c .count - 1) (used c) ++ blanks m) (sym d))
       (length-take-le (c .count - 1) (used c) (omega arith))

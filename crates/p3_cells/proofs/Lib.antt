@@ -6,3 +6,5 @@ pub mod Text
 pub mod Leaving
 pub mod InAlphabet
 pub mod Only
+pub mod Row
+pub mod Fill

@@ -14,7 +14,7 @@ use Rattle.p3_cells.specs.declared.Cell.{Cell}
 use Rattle.p3_cells.specs.declared.Composition.{Composition}
 use Rattle.p3_cells.proofs.Soundness.{fits-used, fits-past, is-cell}
 use Rattle.p3_cells.proofs.SoundTest.{fitsFrom, turn, sound-long, sound-start, heavy}
-use Rattle.p3_key.specs.Edit.{soundBy}
+use Rattle.p3_key.specs.Mirror.{soundBy}
 
 -- ---- a cell's fault
 -- an ASCII letter alone
@@ -43,10 +43,12 @@ unfolding faultsBy
 faults-none c = refl
 
 module _ (c : Composition) (t i w u : ℕ) (e : fitsFrom c 0 ≡ faultsBy c t i) where
-  pub faults-used : u ≡ min (c .count) limit → i < u → eqb w 0 ≡ isCell (getD (c .cells) i blank) → fitsFrom c 0 ≡ faultsBy c (t + w) (i + 1)
+  pub faults-used : u ≡ min (c .count) limit → i < u → eqb w 0 ≡ isCell (getD (c .cells) i blank)
+      → fitsFrom c 0 ≡ faultsBy c (t + w) (i + 1)
   faults-used h l q = e ∙ more c t i w (omega arith) (q ∙ sym (fits-used (c .cells) (c .count) i (omega arith)))
 
-  pub faults-past : u ≡ min (c .count) limit → u ≤ i → i < limit → eqb w 0 ≡ isBlank (getD (c .cells) i blank) → fitsFrom c 0 ≡ faultsBy c (t + w) (i + 1)
+  pub faults-past : u ≡ min (c .count) limit → u ≤ i → i < limit → eqb w 0 ≡ isBlank (getD (c .cells) i blank)
+      → fitsFrom c 0 ≡ faultsBy c (t + w) (i + 1)
   faults-past h l m q = e ∙ more c t i w m (q ∙ sym (fits-past (c .cells) (c .count) i (omega arith)))
 
 all-fit : (c : Composition) (t i : ℕ) → fitsFrom c 0 ≡ faultsBy c t i → limit ≤ i → eqb t 0 ≡ fitsFrom c 0

@@ -12,7 +12,7 @@ use Rattle.p3_cells.specs.declared.Mode.the-variants.{Vietnamese, English}
 use Rattle.p3_cells.proofs.Holding.{used-holding}
 use Rattle.p3_cells.proofs.Leaving.{changed-keeps}
 use Rattle.p3_step.proofs.Frame.{Framed, key-frame}
-use Rattle.p3_key.specs.Process.{inMode, next, keyOutcome, keyNext, keyed}
+use Rattle.p3_key.specs.Process.{inMode, nextCells, keyOutcome, keyNext, keyed}
 
 -- the composition d after a key, where c stood
 pub record KeyFrame (c d : Composition) : Type 0 where
@@ -34,10 +34,10 @@ english-stays c key n e =
     changed-keeps (λ (d : Composition). d ≡ c) (answer (keyOutcome c key) n) c _ refl (λ k q. rw e refl)
 
 pub keyed-frame : (c : Composition) (key n : ℕ) → KeyFrame c (keyed c key n .comp)
-unfolding keyed keyNext next
+unfolding keyed keyNext nextCells
 keyed-frame c key n =
     changed-keeps (KeyFrame c) (answer (keyOutcome c key) n) c _ (same-frame c) (λ k q. go (c .mode))
   where
-    go : (o : Mode) → KeyFrame c (inMode o (holding c (next c key)) c)
-    go Vietnamese = holding-frame c (next c key) (key-frame (c .method) (used c) key)
+    go : (o : Mode) → KeyFrame c (inMode o (holding c (nextCells c key)) c)
+    go Vietnamese = holding-frame c (nextCells c key) (key-frame (c .method) (used c) key)
     go English = same-frame c

@@ -18,7 +18,7 @@ use Rattle.p3_cells.specs.declared.Mode.the-variants.{Vietnamese, English}
 use Rattle.p3_cells.proofs.Holding.{used-cells, holding-sound}
 use Rattle.p3_cells.proofs.Leaving.{changed-keeps}
 use Rattle.p3_step.proofs.Sound.{key-cells-kept}
-use Rattle.p3_key.specs.Process.{inMode, next, written, isFull, keyOutcome, keyNext, keyed}
+use Rattle.p3_key.specs.Process.{inMode, nextCells, writtenFor, isFull, keyOutcome, keyNext, keyed}
 
 -- what an answer that is no refusal says of the key
 pub record Taken (c : Composition) (key : ℕ) : Type 0 where
@@ -30,7 +30,8 @@ unfolding keyOutcome answer
 taken c key n k e = go (isSound c) (inAlphabet key) (isFull c key) refl refl e
   where
     go : (s a f : Bool) → inAlphabet key ≡ a → isFull c key ≡ f
-        → answer (pick s (pick a (pick f (refuses Full) (writes (written c key))) (refuses Foreign)) (refuses Unsound)) n ≡ Done k → Taken c key
+        → answer (pick s (pick a (pick f (refuses Full) (writes (writtenFor c key))) (refuses Foreign)) (refuses Unsound)) n ≡ Done k
+        → Taken c key
     go false a f p q e = let z : _≡_ {A = ℕ} 0 1 = cc in absurd (omega arith)
     go true false f p q e = let z : _≡_ {A = ℕ} 0 1 = cc in absurd (omega arith)
     go true true true p q e = let z : _≡_ {A = ℕ} 0 1 = cc in absurd (omega arith)
@@ -38,15 +39,15 @@ taken c key n k e = go (isSound c) (inAlphabet key) (isFull c key) refl refl e
 
 module _ (c : Composition) (key n : ℕ) (s : isSound c ≡ true) where
   -- in Vietnamese mode: the cells after the key are few enough, and fit
-  few : c .mode ≡ Vietnamese → isFull c key ≡ false → length (next c key) ≤ limit
+  few : c .mode ≡ Vietnamese → isFull c key ≡ false → length (nextCells c key) ≤ limit
   unfolding isFull
-  few m f = ltb-false limit (length (next c key)) (sym (by (c .mode) m) ∙ f)
+  few m f = ltb-false limit (length (nextCells c key)) (sym (by (c .mode) m) ∙ f)
     where
-      by : (o : Mode) → o ≡ Vietnamese → inMode o (ltb limit (length (next c key))) false ≡ ltb limit (length (next c key))
+      by : (o : Mode) → o ≡ Vietnamese → inMode o (ltb limit (length (nextCells c key))) false ≡ ltb limit (length (nextCells c key))
       by o e = rw e refl
 
-  fit : inAlphabet key ≡ true → each isCell (next c key) ≡ true
-  unfolding next
+  fit : inAlphabet key ≡ true → each isCell (nextCells c key) ≡ true
+  unfolding nextCells
   fit a = key-cells-kept (c .method) (used c) (used-cells c s) key a
 
   pub key-sound : isSound (keyed c key n .comp) ≡ true
@@ -56,6 +57,6 @@ module _ (c : Composition) (key n : ℕ) (s : isSound c ≡ true) where
       (λ k e. go (c .mode) refl (taken c key n k e))
     where
       -- either the composition stays, or it holds the cells after the key
-      go : (o : Mode) → c .mode ≡ o → Taken c key → isSound (inMode o (holding c (next c key)) c) ≡ true
+      go : (o : Mode) → c .mode ≡ o → Taken c key → isSound (inMode o (holding c (nextCells c key)) c) ≡ true
       go English m t = s
-      go Vietnamese m t = holding-sound c (next c key) (few m (t .room)) (fit (t .letter))
+      go Vietnamese m t = holding-sound c (nextCells c key) (few m (t .room)) (fit (t .letter))

@@ -1,5 +1,5 @@
 pub mod Faults
-pub mod Edits
+pub mod Strokes
 pub mod Letters
 pub mod Right
 pub mod Owner

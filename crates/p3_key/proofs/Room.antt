@@ -18,17 +18,17 @@ use Rattle.p3_cells.specs.Text.{shown, textOf}
 use Rattle.p3_cells.specs.declared.Composition.{Composition}
 use Rattle.p3_cells.specs.declared.Mode.{Mode}
 use Rattle.p3_cells.specs.declared.Mode.the-variants.{Vietnamese, English}
-use Rattle.p3_key.specs.Process.{inMode, next, written, isFull, keyOutcome}
+use Rattle.p3_key.specs.Process.{inMode, nextCells, writtenFor, isFull, keyOutcome}
 
 module _ (c : Composition) (key : ℕ) where
   -- where all cells are used, what would not fit is refused by 2
-  written-short : isFull c key ≡ false → length (written c key) ≤ limit
-  unfolding written isFull textOf
+  written-short : isFull c key ≡ false → length (writtenFor c key) ≤ limit
+  unfolding writtenFor isFull textOf
   written-short = go (c .mode)
     where
-      go : (m : Mode) → inMode m (ltb limit (length (next c key))) false ≡ false
-          → length (inMode m (textOf (next c key)) (key ∷ [])) ≤ limit
-      go Vietnamese e = omega (arith, length-map (next c key) shown, ltb-false limit (length (next c key)) e)
+      go : (m : Mode) → inMode m (ltb limit (length (nextCells c key))) false ≡ false
+          → length (inMode m (textOf (nextCells c key)) (key ∷ [])) ≤ limit
+      go Vietnamese e = omega (arith, length-map (nextCells c key) shown, ltb-false limit (length (nextCells c key)) e)
       go English e = omega arith
 
   key-fits : Fits limit (keyOutcome c key)
@@ -36,7 +36,7 @@ module _ (c : Composition) (key : ℕ) where
   key-fits = go (isSound c) (inAlphabet key) (isFull c key) refl
     where
       go : (s a f : Bool) → isFull c key ≡ f
-          → Fits limit (pick s (pick a (pick f (refuses Full) (writes (written c key))) (refuses Foreign)) (refuses Unsound))
+          → Fits limit (pick s (pick a (pick f (refuses Full) (writes (writtenFor c key))) (refuses Foreign)) (refuses Unsound))
       go true true true e = λ q. let z : _≡_ {A = ℕ} 0 1 = cc in omega arith
       go true true false e = written-short e
       go true false f e = λ q. let z : _≡_ {A = ℕ} 0 1 = cc in omega arith

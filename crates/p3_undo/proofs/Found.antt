@@ -16,7 +16,7 @@ use Rattle.p2_input_method.specs.declared.InputMethod.{InputMethod}
 use Rattle.p2_input_method.specs.declared.InputMethod.the-variants.{Telex, Vni}
 use Rattle.p2_input_method.specs.declared.MarkRule.{MarkRule}
 use Rattle.p3_cells.specs.Cells.{limit, blank, isSound, used}
-use Rattle.p3_cells.specs.Places.{placeOr}
+use Rattle.p3_cells.specs.Place.{placeOr}
 use Rattle.p3_cells.specs.declared.Cell.{Cell}
 use Rattle.p3_cells.specs.declared.Composition.{Composition}
 use Rattle.p3_cells.proofs.Holding.{count-fits, used-length}
@@ -50,7 +50,8 @@ place-below : (b : Bool) (p : Place) (n j : ℕ) → pick b p Nowhere ≡ At j �
 place-below true p n j e f = f e
 place-below false p n j e f = let z : _≡_ {A = ℕ} 0 1 = cc in absurd (omega arith)
 
-next-fine : (n : ℕ) (p : Place) (made : ℕ → Undoing) (next : Undoing) → ((i : ℕ) → p ≡ At i → Fine n (made i)) → Fine n next → Fine n (placeOr p made next)
+next-fine : (n : ℕ) (p : Place) (made : ℕ → Undoing) (next : Undoing) → ((i : ℕ) → p ≡ At i → Fine n (made i)) → Fine n next
+    → Fine n (placeOr p made next)
 next-fine n Nowhere made next f g = g
 next-fine n (At i) made next f g = f i refl
 
@@ -58,7 +59,8 @@ module _ (cs : List Cell) (raw : List ℕ) (t : ℕ) where
   rule-below : (r : MarkRule) (j : ℕ) → ruleAt cs raw t r ≡ At j → j < length cs
   unfolding ruleAt
   rule-below r j e =
-      place-below (eqb (r .key) t) (pick (active raw (r .first) (r .key)) (lastWith (hasMark (r .result)) cs (length cs)) Nowhere) (length cs) j e
+      place-below (eqb (r .key) t) (pick (active raw (r .first) (r .key)) (lastWith (hasMark (r .result)) cs (length cs)) Nowhere)
+      (length cs) j e
       (λ q. place-below (active raw (r .first) (r .key)) (lastWith (hasMark (r .result)) cs (length cs)) (length cs) j q
       (λ h. below (hasMark (r .result)) cs (length cs) j h))
 
@@ -71,7 +73,8 @@ module _ (cs : List Cell) (raw : List ℕ) (t : ℕ) where
 
   tone-below : (j : ℕ) → toneAt cs raw t ≡ At j → j < length cs
   unfolding toneAt
-  tone-below j e = place-below (endsIn raw t) (lastWith (hasTone t) cs (length cs)) (length cs) j e (λ h. below (hasTone t) cs (length cs) j h)
+  tone-below j e = place-below (endsIn raw t) (lastWith (hasTone t) cs (length cs)) (length cs) j e
+      (λ h. below (hasTone t) cs (length cs) j h)
 
   telex-gives : T (each (λ (r : MarkRule). gives (r .first)) (markRules Telex))
   unfolding inAlphabet asciiUpper markRules markRule word
@@ -80,7 +83,8 @@ module _ (cs : List Cell) (raw : List ℕ) (t : ℕ) where
   pub undo-fine : (m : InputMethod) → Fine (length cs) (toUndo m cs raw t)
   unfolding toUndo
   undo-fine Telex =
-      next-fine (length cs) (toneAt cs raw t) (λ (i : ℕ). Tone i) (byRules cs raw t (markRules Telex)) (λ i e. tone-below i e) (rules-fine (markRules Telex) telex-gives)
+      next-fine (length cs) (toneAt cs raw t) (λ (i : ℕ). Tone i) (byRules cs raw t (markRules Telex))
+      (λ i e. tone-below i e) (rules-fine (markRules Telex) telex-gives)
   undo-fine Vni = tt
 
 -- ---- the places found are in use, and so in the array

@@ -14,7 +14,7 @@ use Rattle.p2_input_method.specs.Rules.{markRules}
 use Rattle.p2_input_method.specs.declared.InputMethod.the-variants.{Telex}
 use Rattle.p2_input_method.specs.declared.MarkRule.{MarkRule}
 use Rattle.p3_cells.specs.Cells.{blank}
-use Rattle.p3_cells.specs.Places.{placeOr}
+use Rattle.p3_cells.specs.Place.{placeOr}
 use Rattle.p3_cells.specs.declared.Cell.{Cell}
 use Rattle.p3_cells.specs.declared.Place.{Place}
 use Rattle.p3_cells.specs.declared.Place.the-variants.{Nowhere, At}

@@ -11,37 +11,41 @@ use borrow.Author.Tests.{eq-eqb, ne-eqb, not-true, not-false}
 use Rattle.p0_choice.specs.Choice.{pick}
 use Rattle.p0_choice.proofs.Choices.{pick-true, pick-false}
 use Rattle.p1_letters.specs.Alphabet.{asciiUpper}
-use Rattle.p2_input_method.specs.Rules.{markRules, noRule}
+use Rattle.p2_input_method.specs.Rules.{markRules}
+use Rattle.p2_input_method.specs.Mirror.{noRule}
 use Rattle.p2_input_method.specs.declared.InputMethod.{InputMethod}
 use Rattle.p2_input_method.specs.declared.InputMethod.the-variants.{Telex, Vni}
 use Rattle.p2_input_method.specs.declared.MarkRule.{MarkRule}
 use Rattle.p3_cells.specs.Cells.{limit, blank, used}
-use Rattle.p3_cells.specs.Places.{placeOr}
+use Rattle.p3_cells.specs.Place.{placeOr}
 use Rattle.p3_cells.specs.declared.Cell.{Cell}
 use Rattle.p3_cells.specs.declared.Composition.{Composition}
 use Rattle.p3_cells.proofs.Holding.{used-count, used-at}
 use Rattle.p3_undo.specs.Raw.{endsIn, active}
-use Rattle.p3_undo.specs.Undo.{lastWith, hasTone, hasMark, ruleAt, byRules, toneAt, toUndo, toneless, restored}
+use Rattle.p3_undo.specs.Undo.{lastWith, hasTone, hasMark, ruleAt, byRules, toneAt, toUndo, toneLost, restored}
 use Rattle.p3_cells.specs.declared.Place.{Place}
 use Rattle.p3_cells.specs.declared.Place.the-variants.{Nowhere, At}
 use Rattle.p3_undo.specs.declared.Undoing.{Undoing}
 use Rattle.p3_undo.specs.declared.Undoing.the-variants.{Nothing, Tone, Mark}
 
 -- ---- a cell
-pub toneless-is : (x : Cell) → record { base = x .base; mark = x .mark; tone = 0; upper = x .upper } ≡ toneless x
-unfolding toneless
+pub toneless-is : (x : Cell) → record { base = x .base; mark = x .mark; tone = 0; upper = x .upper } ≡ toneLost x
+unfolding toneLost
 toneless-is x = refl
 
-pub restored-small : (a : ℕ) (x : Cell) → not (x .upper) ≡ true → record { base = a; mark = 0; tone = x .tone; upper = x .upper } ≡ restored a x
+pub restored-small : (a : ℕ) (x : Cell) → not (x .upper) ≡ true
+    → record { base = a; mark = 0; tone = x .tone; upper = x .upper } ≡ restored a x
 unfolding restored
 restored-small a x h =
-    ap (λ (b : ℕ). record { base = b; mark = 0; tone = x .tone; upper = x .upper }) (pick-false (x .upper) a (asciiUpper a) a (not-true (x .upper) h) refl)
+    ap (λ (b : ℕ). record { base = b; mark = 0; tone = x .tone; upper = x .upper })
+    (pick-false (x .upper) a (asciiUpper a) a (not-true (x .upper) h) refl)
 
 pub restored-capital : (a b : ℕ) (x : Cell) → not (x .upper) ≡ false → b ≡ asciiUpper a
     → record { base = b; mark = 0; tone = x .tone; upper = x .upper } ≡ restored a x
 unfolding restored
 restored-capital a b x h e =
-    ap (λ (b : ℕ). record { base = b; mark = 0; tone = x .tone; upper = x .upper }) (pick-true (x .upper) b (asciiUpper a) a (not-false (x .upper) h) e)
+    ap (λ (b : ℕ). record { base = b; mark = 0; tone = x .tone; upper = x .upper })
+    (pick-true (x .upper) b (asciiUpper a) a (not-false (x .upper) h) e)
 
 -- ---- the last cell that passes a test
 module _ (p : Cell → Bool) (c : Composition) (s : Place) (i : ℕ) (e : s ≡ lastWith p (used c) i) where
@@ -77,7 +81,8 @@ module _ (c : Composition) (raw : List ℕ) (t : ℕ) (r : MarkRule) where
     unfolding ruleAt
     rule-idle q = rw (eq-eqb (r .key) t h, ← e, not-true v q) refl
 
-    pub rule-last : (p : Place) → not v ≡ false → p ≡ lastWith (hasMark (r .result)) (used c) (c .count) → c .count ≤ limit → length (c .cells) ≡ limit
+    pub rule-last : (p : Place) → not v ≡ false → p ≡ lastWith (hasMark (r .result)) (used c) (c .count) → c .count ≤ limit
+        → length (c .cells) ≡ limit
         → p ≡ ruleAt (used c) raw t r
     unfolding ruleAt
     rule-last p q f l n = rw (eq-eqb (r .key) t h, ← e, not-false v q, used-count c (omega arith)) f

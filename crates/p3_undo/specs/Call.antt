@@ -13,7 +13,7 @@ use Rattle.p1_letters.specs.Alphabet.{inAlphabet, allLetters, asciiLower}
 use Rattle.p2_input_method.specs.declared.MarkRule.{MarkRule}
 use Rattle.p3_cells.specs.Cells.{isSound, used, holding}
 use Rattle.p3_cells.specs.declared.Composition.{Composition}
-use Rattle.p3_undo.specs.Raw.{lowered}
+use Rattle.p3_undo.specs.Raw.{rawLowered}
 use Rattle.p3_undo.specs.Undo.{toUndo, undone}
 use Rattle.p3_undo.specs.declared.TelexUndo.{TelexUndo}
 use Rattle.p3_undo.specs.declared.TelexUndo.the-variants.{AppendTrigger, ConsumeTrigger, Refused}
@@ -22,30 +22,30 @@ use Rattle.p3_undo.specs.declared.Undoing.the-variants.{Nothing, Tone, M
 use Rattle.p3_undo.specs.declared.Undone.{Undone}
 
 -- the refusal's number, 0 for none
-abbrev pub refusalOf : TelexUndo → ℕ
-refusalOf AppendTrigger = 0
-refusalOf ConsumeTrigger = 0
-refusalOf (Refused r) = numberOf r
+abbrev pub undoRefusal : TelexUndo → ℕ
+undoRefusal AppendTrigger = 0
+undoRefusal ConsumeTrigger = 0
+undoRefusal (Refused r) = numberOf r
 
 -- "Telex undo: dd consumes its trigger, the others append it."
 unfoldable pub behaviour : MarkRule → TelexUndo
 behaviour r = pick (eqb (r .first) (code "d")) (pick (eqb (r .key) (code "d")) ConsumeTrigger AppendTrigger) AppendTrigger
 
 -- "A refusal returns its number; the composition .. [stays as it was]."
-abbrev pub refused : Composition → Refusal → Undone
-refused c r = record { comp = c; answer = Refused r }
+abbrev pub notUndone : Composition → Refusal → Undone
+notUndone c r = record { comp = c; answer = Refused r }
 
 -- "5: undo, and the Rust answers None"; a tone: "answer: append"; a mark: "the rule's behaviour is the answer"
 unfoldable pub undoFound : Composition → Undoing → Undone
-undoFound c Nothing = refused c NoUndo
+undoFound c Nothing = notUndone c NoUndo
 undoFound c (Tone i) = record { comp = holding c (undone (used c) (Tone i)); answer = AppendTrigger }
 undoFound c (Mark i r) = record { comp = holding c (undone (used c) (Mark i r)); answer = behaviour r }
 
 unfoldable pub undoTelex : Composition → ℕ → List ℕ → Undone
 undoTelex c trigger raw =
     pick (isSound c)
-    (pick (ltb letterLimit (length raw)) (refused c Long)
+    (pick (ltb letterLimit (length raw)) (notUndone c Long)
     (pick (inAlphabet trigger)
-    (pick (allLetters raw) (undoFound c (toUndo (c .method) (used c) (lowered raw) (asciiLower trigger))) (refused c Foreign))
-    (refused c Foreign)))
-    (refused c Unsound)
+    (pick (allLetters raw) (undoFound c (toUndo (c .method) (used c) (rawLowered raw) (asciiLower trigger))) (notUndone c Foreign))
+    (notUndone c Foreign)))
+    (notUndone c Unsound)

@@ -1,5 +1,5 @@
 pub mod Words
-pub mod Listed
+pub mod InRows
 pub mod Keys
 pub mod Matrices
 pub mod Pairs

@@ -7,7 +7,7 @@ use lib.ListN.{length, take, drop}
 use borrow.Author.Tests.{le-ltb}
 use Rattle.p0_refusals.specs.Limits.{letterLimit}
 use Rattle.p4_rows.specs.Rows.{Word}
-use Rattle.p4_spelling.specs.declared.Places.{Places}
+use Rattle.p4_spelling.specs.declared.CutPlaces.{CutPlaces}
 use Rattle.p4_spelling.specs.declared.Cut.the-variants.{At}
 use Rattle.p4_spelling.specs.declared.Verdict.the-variants.{Yes}
 use Rattle.p4_spelling.specs.Cut.{vowelRun, onsetEnd, vowelsEnd, onsetOf, vowelsOf, codaOf}
@@ -16,7 +16,7 @@ use Rattle.p4_spelling.specs.Answers.{permitted, placesOf, verdictAnswer
 use Rattle.p4_spelling.proofs.Letters.{accepted-letters}
 use Rattle.p4_spelling.proofs.Scans.{onset-le, vowels-le, onset-first}
 
-pub cut-at-is : (p q : Places) → p ≡ q → At p ≡ At q
+pub cut-at-is : (p q : CutPlaces) → p ≡ q → At p ≡ At q
 cut-at-is p q e = ap At e
 
 run-long : (w : Word) → take (vowelsEnd w - onsetEnd w) (drop (onsetEnd w) w) ≡ take (vowelRun (drop (onsetEnd w) w)) (drop (onsetEnd w) w)

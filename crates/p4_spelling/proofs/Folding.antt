@@ -13,7 +13,7 @@ use Rattle.p0_choice.specs.Text.{word, words, wordsFrom}
 use Rattle.p1_letters.specs.Alphabet.{lower}
 use Rattle.p1_letters.specs.Tones.{toneOff}
 use Rattle.p4_rows.specs.Rows.{Word, onsetRows}
-use Rattle.p4_rows.specs.Lookup.{sameWord, inList, rowsFrom, rowsOf, listed}
+use Rattle.p4_rows.specs.Lookup.{sameWord, inList, rowsFrom, rowsOf, inRows}
 use Rattle.p4_spelling.specs.Cut.{beforeVowel, vowelRun, startsGlued, onsetEnd, onsetOf, vowelsOf}
 use Rattle.p4_spelling.specs.Verdict.{hasForeign, fits, lowered, toneless, verdict, longestLength}
 use Rattle.p4_spelling.proofs.Parts.{fits-short}
@@ -69,11 +69,12 @@ unfolding toneless lowered
 form-nil = refl
 
 empty-no : false ≡ verdict []
-unfolding verdict hasForeign lowered toneless fits vowelsOf onsetOf onsetEnd startsGlued beforeVowel vowelRun listed rowsOf rowsFrom inList sameWord onsetRows word words wordsFrom
+unfolding verdict hasForeign lowered toneless fits vowelsOf onsetOf onsetEnd startsGlued beforeVowel vowelRun inRows rowsOf rowsFrom inList
+    sameWord onsetRows word words wordsFrom
 empty-no = refl
 
-pub begin : (w plain : Word) → length plain ≡ longestLength → Folded w plain 0
-begin w plain e = record { within = omega arith; eight = e; is = refl }
+pub fold-begin : (w plain : Word) → length plain ≡ longestLength → Folded w plain 0
+fold-begin w plain e = record { within = omega arith; eight = e; is = refl }
 
 module _ (w plain : Word) (i : ℕ) (k : Folded w plain i) where
   pub fold-on : (x y : ℕ) → i < length w → x ≡ lower (getD w i 0) → y ≡ toneOff x → i < longestLength → Folded w (set plain i y) (i + 1)
@@ -82,9 +83,11 @@ module _ (w plain : Word) (i : ℕ) (k : Folded w plain i) where
     eight = length-set plain i y ∙ k .eight;
     is =
         k .is ∙ ap (λ (u : Word). take i plain ++ toneless (lowered u)) (drop-cons w i 0 l)
-        ∙ ap (λ (u : Word). take i plain ++ u) (form-cons (getD w i 0) (drop (suc i) w) ∙ ap (λ (z : ℕ). z ∷ toneless (lowered (drop (suc i) w))) (sym (ey ∙ ap toneOff ex)))
+        ∙ ap (λ (u : Word). take i plain ++ u)
+        (form-cons (getD w i 0) (drop (suc i) w) ∙ ap (λ (z : ℕ). z ∷ toneless (lowered (drop (suc i) w))) (sym (ey ∙ ap toneOff ex)))
         ∙ sym (append-snoc (take i plain) y (toneless (lowered (drop (suc i) w))))
-        ∙ rw (add-one i) (ap (λ (u : Word). u ++ toneless (lowered (drop (suc i) w))) (sym (take-suc-set plain i y (omega (arith, k .eight)))));
+        ∙ rw (add-one i) (ap (λ (u : Word). u ++ toneless (lowered (drop (suc i) w)))
+        (sym (take-suc-set plain i y (omega (arith, k .eight)))));
   }
 
   -- all letters are in the array

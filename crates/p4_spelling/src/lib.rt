@@ -13,7 +13,7 @@ ghost use lib.Dec.{eqb};
 ghost use Rattle.p0_choice.specs.Choice.{pick};
 ghost use Rattle.p4_rows.specs.Rows.{onsetToVowels};
 ghost use Rattle.p4_rows.specs.Lookup.{goTogether};
-ghost use Rattle.p4_rows.specs.Keys.{shown};
+ghost use Rattle.p4_rows.specs.Mirror.{rowNumbers};
 ghost use Rattle.p4_spelling.specs.Cut.{beforeVowel, vowelRun, isGlue, onsetEnd};
 ghost use Rattle.p4_spelling.specs.Verdict.{codaFits, fits as fitting, verdict};
 ghost use Rattle.p4_spelling.specs.Answers.{placesOf, onsetPart, vowelsPart, codaPart, cutAnswer, verdictAnswer};
@@ -22,14 +22,14 @@ ghost use Rattle.p4_spelling.specs.Answers.{placesOf, onsetPart, vowelsP
 pub const LONGEST: usize = 8;
 
 // Where a word is cut: its onset ends before `onset`, its vowels end before `vowels`.
-pub struct Places {
+pub struct CutPlaces {
     pub onset: usize,
     pub vowels: usize,
 }
 
 // What the cut answers.
 pub enum Cut {
-    At(Places),
+    At(CutPlaces),
     Refused(Refusal),
 }
 
@@ -97,19 +97,19 @@ fn onset_end(word: &[u32]) -> usize
 }
 
 // The places where any word is cut.
-pub fn cut_at(word: &[u32]) -> Places
+pub fn cut_at(word: &[u32]) -> CutPlaces
     ensures { λ r. ⌜ (r ≡ placesOf (now (word .entry))) × (r .onset ≤ r .vowels) × (r .vowels ≤ length (now (word .entry))) ⌝ }
 {
     let onset = onset_end(word);
     let run = vowel_run(&word[onset..]);
-    Places {
+    CutPlaces {
         onset,
         vowels: onset + run,
     }
 }
 
 // The parts of a word between such places; empty where they do not stand in it.
-pub fn onset_part(word: &[u32], at: Places) -> &[u32]
+pub fn onset_part(word: &[u32], at: CutPlaces) -> &[u32]
     ensures { λ r. ⌜ now r ≡ onsetPart (now (word .entry)) at ⌝ }
 {
     let end = at.onset;
@@ -119,7 +119,7 @@ pub fn onset_part(word: &[u32], at: Places) -> &[u32]
     &word[0..end]
 }
 
-pub fn vowels_part(word: &[u32], at: Places) -> &[u32]
+pub fn vowels_part(word: &[u32], at: CutPlaces) -> &[u32]
     ensures { λ r. ⌜ now r ≡ vowelsPart (now (word .entry)) at ⌝ }
 {
     let start = at.onset;
@@ -133,7 +133,7 @@ pub fn vowels_part(word: &[u32], at: Places) -> &[u32]
     &word[start..end]
 }
 
-pub fn coda_part(word: &[u32], at: Places) -> &[u32]
+pub fn coda_part(word: &[u32], at: CutPlaces) -> &[u32]
     ensures { λ r. ⌜ now r ≡ codaPart (now (word .entry)) at ⌝ }
 {
     let start = at.vowels;
@@ -159,7 +159,7 @@ pub fn partition(word: &[u32]) -> Cut
 // One of the onset's rows goes with one of the vowels', or the onset has no letters. An onset without rows is not
 // listed, and goes with none.
 fn onset_fits(letters: usize, onset: Rows, vowels: Rows) -> bool
-    ensures { λ r. ⌜ r ≡ pick (eqb letters 0) true (goTogether onsetToVowels (shown onset) (shown vowels)) ⌝ }
+    ensures { λ r. ⌜ r ≡ pick (eqb letters 0) true (goTogether onsetToVowels (rowNumbers onset) (rowNumbers vowels)) ⌝ }
 {
     if letters == 0 {
         return true;
@@ -169,7 +169,7 @@ fn onset_fits(letters: usize, onset: Rows, vowels: Rows) -> bool
 
 // The same of the coda, whose search is its own: another row of the vowels may answer it.
 fn coda_fits(vowels: Rows, coda: &[u32]) -> bool
-    ensures { λ r. ⌜ r ≡ codaFits (shown vowels) (now (coda .entry)) ⌝ }
+    ensures { λ r. ⌜ r ≡ codaFits (rowNumbers vowels) (now (coda .entry)) ⌝ }
 {
     if coda.len() == 0 {
         return true;

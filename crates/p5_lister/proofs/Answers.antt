@@ -15,12 +15,12 @@ use Rattle.p0_refusals.specs.Answers.{Outcome, writes, refuses, answer, output}
 use Rattle.p0_refusals.proofs.Answers.{refuses-answer, refuses-output, short-answer, short-output, writes-answer, writes-output}
 use Rattle.p1_letters.specs.Alphabet.{allLetters}
 use Rattle.p4_rows.specs.Rows.{Word}
-use Rattle.p5_trie.specs.Trie.{Trie, size, nth, upTo}
+use Rattle.p5_trie.specs.Mirror.{Trie, trieSize, nth, upTo}
 use Rattle.p5_trie.specs.Numbering.{Many}
 use Rattle.p5_trie.proofs.Unique.{one-total, one-numbering}
 use Rattle.p5_trie.proofs.Numbering as Tries
 use Rattle.p5_listing.specs.Listed.{Listed}
-use Rattle.p5_listing.specs.Cells.{listing}
+use Rattle.p5_listing.specs.Mirror.{listing}
 use Rattle.p5_listing.specs.Counts.{wordCount}
 use Rattle.p4_spelling.specs.Verdict.{longestLength}
 use Rattle.p5_listing.proofs.Numbering.{lists, numbering}
@@ -72,7 +72,7 @@ module _ (n : ℕ) (o : List ℕ) where
 number-next : {P : Word → Type 0} {t : Trie} (l : Tries.Lists P t) (w : Word) (u : Outcome) → Permitted w
     → NumberMeans P (upTo t w) u → NextMeans P w u
 number-next {t = t} l w u p (word r q e) =
-    let h : upTo t w < size t = omega (arith, q .small, one-total (q .numbers) (Tries.numbering l)) in
+    let h : upTo t w < trieSize t = omega (arith, q .small, one-total (q .numbers) (Tries.numbering l)) in
     let s : nth t (upTo t w) ≡ r = one-numbering (Tries.numbering l) (q .numbers) (upTo t w) h ∙ q .is in
     next r p (rw s at (Tries.follows l w h)) (rw e)
 number-next {t = t} l w u p (none q e) =

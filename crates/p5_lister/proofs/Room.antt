@@ -22,7 +22,8 @@ use Rattle.p5_lister.proofs.Answers.{Answers}
 module _ (u : Outcome) (o : List ℕ) (a : Answer) (g : a ≡ answer u (length o)) (e : a ≡ Refused Short) where
   not-word : (r : Word) → Listed r → u ≡ writes r → longestLength ≤ length o → ⊥
   not-word r l q h =
-      let d : Done (length r) ≡ answer u (length o) = writes-answer u r q (length o) (length r) (omega (arith, counts .longest .within r l)) refl in
+      let d : Done (length r) ≡ answer u (length o) =
+      writes-answer u r q (length o) (length r) (omega (arith, counts .longest .within r l)) refl in
       let z : _≡_ {A = ℕ} 0 1 = cc in
       omega arith
 

@@ -1,6 +1,6 @@
 // The lister (document 01, port order 5): the listed words by number, and the one that follows a word. Both go down the
-// table of shared cells of `p5_listing`, from the last cell to lower ones: cell 0 is none.
-mod cells;
+// table of shared nodes of `p5_listing`, from the last node to lower ones: node 0 is none.
+mod nodes;
 
 use p0_refusals::Answer;
 use p0_refusals::LETTERS;
@@ -11,10 +11,10 @@ ghost use mathlib.Core.Path.{_≡_};
 ghost use mathlib.Core.List.{_++_};
 ghost use Prim.Native.Nat.{_≤_, _<_};
 ghost use lib.ListN.{length, take, drop};
-ghost use Rattle.p5_trie.specs.Trie.{nth, upTo};
+ghost use Rattle.p5_trie.specs.Mirror.{nth, upTo};
 ghost use Rattle.p5_trie.specs.Numbering.{Many};
 ghost use Rattle.p5_listing.specs.Listed.{Listed};
-ghost use Rattle.p5_listing.specs.Cells.{listing};
+ghost use Rattle.p5_listing.specs.Mirror.{listing};
 ghost use Rattle.p4_spelling.specs.Verdict.{longestLength};
 ghost use Rattle.p5_listing.specs.Counts.{wordCount};
 ghost use Rattle.p0_refusals.specs.Answers.{Outcome, answer, output};
@@ -51,30 +51,30 @@ fn letter(x: u16) -> u32
 fn up_to(word: &[u32]) -> usize
     ensures { λ r. ⌜ r ≡ upTo listing (now (word .entry)) ⌝ }
 {
-    let letters = cells::LETTERS;
-    let stops = cells::STOPS;
-    let downs = cells::DOWNS;
-    let nexts = cells::NEXTS;
-    let weights = cells::WEIGHTS;
-    let mut cell: usize = cells::ROOT;
+    let letters = nodes::LETTERS;
+    let stops = nodes::STOPS;
+    let downs = nodes::DOWNS;
+    let nexts = nodes::NEXTS;
+    let weights = nodes::WEIGHTS;
+    let mut node: usize = nodes::ROOT;
     let mut count: usize = 0;
     let mut i: usize = 0;
-    while cell != 0 {
+    while node != 0 {
         if i == word.len() {
             return count;
         }
-        let x = letter(letters[cell]);
+        let x = letter(letters[node]);
         let y = word[i];
         if y < x {
             return count;
         }
         if x == y {
-            count += wide8(stops[cell]);
-            cell = wide8(downs[cell]);
+            count += wide8(stops[node]);
+            node = wide8(downs[node]);
             i += 1;
         } else {
-            count += wide16(weights[cell]);
-            cell = wide8(nexts[cell]);
+            count += wide16(weights[node]);
+            node = wide8(nexts[node]);
         }
     }
     count
@@ -85,29 +85,29 @@ fn word_at(n: usize) -> Spelled
     requires { ⌜ n < wordCount ⌝ }
     ensures { λ r. ⌜ (r .len ≤ longestLength) × (take (r .len) (r .letters) ≡ nth listing n) ⌝ }
 {
-    let letters = cells::LETTERS;
-    let stops = cells::STOPS;
-    let downs = cells::DOWNS;
-    let nexts = cells::NEXTS;
-    let weights = cells::WEIGHTS;
+    let letters = nodes::LETTERS;
+    let stops = nodes::STOPS;
+    let downs = nodes::DOWNS;
+    let nexts = nodes::NEXTS;
+    let weights = nodes::WEIGHTS;
     let mut out = [0u32; LONGEST];
     let mut len: usize = 0;
-    let mut cell: usize = cells::ROOT;
+    let mut node: usize = nodes::ROOT;
     let mut left = n;
-    while cell != 0 {
-        let through = wide16(weights[cell]);
+    while node != 0 {
+        let through = wide16(weights[node]);
         if left < through {
-            out[len] = letter(letters[cell]);
+            out[len] = letter(letters[node]);
             len += 1;
-            let ends = wide8(stops[cell]);
+            let ends = wide8(stops[node]);
             if left < ends {
                 return Spelled { len, letters: out };
             }
             left -= ends;
-            cell = wide8(downs[cell]);
+            node = wide8(downs[node]);
         } else {
             left -= through;
-            cell = wide8(nexts[cell]);
+            node = wide8(nexts[node]);
         }
     }
     Spelled { len, letters: out }

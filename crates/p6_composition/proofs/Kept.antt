@@ -10,7 +10,7 @@ use Rattle.p0_refusals.specs.declared.Answer.{Answer}
 use Rattle.p0_refusals.specs.declared.Answer.the-variants.{Done, Refused}
 use Rattle.p2_input_method.specs.declared.InputMethod.{InputMethod}
 use Rattle.p3_cells.specs.Cells.{isSound}
-use Rattle.p3_cells.specs.declared.Changed.{Changed}
+use Rattle.p3_cells.specs.declared.After.{After}
 use Rattle.p3_cells.specs.declared.Composition.{Composition}
 use Rattle.p3_calls.proofs.Kept.{new-sound, reset-sound, set-method-sound, set-enabled-sound, literal-sound, pop-sound}
 use Rattle.p3_calls.specs.Settings.{created}
@@ -19,73 +19,74 @@ use Rattle.p3_undo.proofs.Kept.{undo-sound}
 use Rattle.p6_bytes.specs.Bytes.{compositionOf, methodOf, bytesOf, bytesSound}
 use Rattle.p6_bytes.proofs.Round.{written-sound}
 use Rattle.p6_bytes.proofs.Sound.{sound-composition}
-use Rattle.p6_composition.specs.Steps.{undoneStep}
-use Rattle.p6_composition.specs.Calls.{answerOn, after, bytesOn, keyStep, resetStep, literalStep, popStep, undoStep, orUnsound, methodStep, modeStep, newOn, newBytes}
+use Rattle.p6_composition.specs.UndoAnswer.{undoLeaving}
+use Rattle.p6_composition.specs.Calls.{answerOn, bytesAfter, bytesOn, keyOn, resetOn, literalOn, removalOn, undoOn, orUnsound}
+use Rattle.p6_composition.specs.Calls.{methodOn, modeOn, newOn, newBytes}
 
-after-sound : (a : Answer) (b : List ℕ) (d : Composition) → bytesSound b ≡ true → isSound d ≡ true → bytesSound (after a b d) ≡ true
+after-sound : (a : Answer) (b : List ℕ) (d : Composition) → bytesSound b ≡ true → isSound d ≡ true → bytesSound (bytesAfter a b d) ≡ true
 after-sound (Done n) b d h s = written-sound d s
 after-sound (Refused r) b d h s = h
 
 module _ (b : List ℕ) (h : bytesSound b ≡ true) where
-  on-sound : (s : Changed) → isSound (s .comp) ≡ true → bytesSound (bytesOn b s) ≡ true
+  on-sound : (s : After) → isSound (s .comp) ≡ true → bytesSound (bytesOn b s) ≡ true
   unfolding bytesOn
   on-sound s k = after-sound (answerOn b s) b (s .comp) h k
 
-  or-sound : (n : ℕ) (p : Changed) → isSound (p .comp) ≡ true → isSound (orUnsound b n p .comp) ≡ true
+  or-sound : (n : ℕ) (p : After) → isSound (p .comp) ≡ true → isSound (orUnsound b n p .comp) ≡ true
   unfolding orUnsound
-  or-sound n p e = pick-both (λ (q : Changed). isSound (q .comp) ≡ true) (leb n 1) p _ (λ l. e) (λ l. sound-composition b h)
+  or-sound n p e = pick-both (λ (q : After). isSound (q .comp) ≡ true) (leb n 1) p _ (λ l. e) (λ l. sound-composition b h)
 
   sound : isSound (compositionOf b) ≡ true
   sound = sound-composition b h
 
-  pub key-step : (key : ℕ) (out : List ℕ) → isSound (keyStep b key out .comp) ≡ true
-  unfolding keyStep
+  pub key-step : (key : ℕ) (out : List ℕ) → isSound (keyOn b key out .comp) ≡ true
+  unfolding keyOn
   key-step key out = key-sound (compositionOf b) key (length out) sound
 
-  pub reset-step : isSound (resetStep b .comp) ≡ true
-  unfolding resetStep
+  pub reset-step : isSound (resetOn b .comp) ≡ true
+  unfolding resetOn
   reset-step = reset-sound (compositionOf b) sound
 
-  pub literal-step : (l : ℕ) → isSound (literalStep b l .comp) ≡ true
-  unfolding literalStep
+  pub literal-step : (l : ℕ) → isSound (literalOn b l .comp) ≡ true
+  unfolding literalOn
   literal-step l = literal-sound (compositionOf b) sound l
 
-  pub pop-step : (out : List ℕ) → isSound (popStep b out .comp) ≡ true
-  unfolding popStep
+  pub pop-step : (out : List ℕ) → isSound (removalOn b out .comp) ≡ true
+  unfolding removalOn
   pop-step out = pop-sound (compositionOf b) sound (length out)
 
-  pub undo-step : (t : ℕ) (raw : List ℕ) → isSound (undoStep b t raw .comp) ≡ true
-  unfolding undoStep undoneStep
+  pub undo-step : (t : ℕ) (raw : List ℕ) → isSound (undoOn b t raw .comp) ≡ true
+  unfolding undoOn undoLeaving
   undo-step t raw = undo-sound (compositionOf b) sound t raw
 
-  pub method-step : (m : ℕ) → isSound (methodStep b m .comp) ≡ true
-  unfolding methodStep
+  pub method-step : (m : ℕ) → isSound (methodOn b m .comp) ≡ true
+  unfolding methodOn
   method-step m = or-sound m _ (set-method-sound (compositionOf b) sound (methodOf m))
 
-  pub mode-step : (o : ℕ) → isSound (modeStep b o .comp) ≡ true
-  unfolding modeStep
+  pub mode-step : (o : ℕ) → isSound (modeOn b o .comp) ≡ true
+  unfolding modeOn
   mode-step o = or-sound o _ (set-enabled-sound (compositionOf b) sound (eqb o 0))
 
-  pub key-kept : (key : ℕ) (out : List ℕ) → bytesSound (bytesOn b (keyStep b key out)) ≡ true
-  key-kept key out = on-sound (keyStep b key out) (key-step key out)
+  pub key-kept : (key : ℕ) (out : List ℕ) → bytesSound (bytesOn b (keyOn b key out)) ≡ true
+  key-kept key out = on-sound (keyOn b key out) (key-step key out)
 
-  pub reset-kept : bytesSound (bytesOn b (resetStep b)) ≡ true
-  reset-kept = on-sound (resetStep b) reset-step
+  pub reset-kept : bytesSound (bytesOn b (resetOn b)) ≡ true
+  reset-kept = on-sound (resetOn b) reset-step
 
-  pub literal-kept : (l : ℕ) → bytesSound (bytesOn b (literalStep b l)) ≡ true
-  literal-kept l = on-sound (literalStep b l) (literal-step l)
+  pub literal-kept : (l : ℕ) → bytesSound (bytesOn b (literalOn b l)) ≡ true
+  literal-kept l = on-sound (literalOn b l) (literal-step l)
 
-  pub pop-kept : (out : List ℕ) → bytesSound (bytesOn b (popStep b out)) ≡ true
-  pop-kept out = on-sound (popStep b out) (pop-step out)
+  pub pop-kept : (out : List ℕ) → bytesSound (bytesOn b (removalOn b out)) ≡ true
+  pop-kept out = on-sound (removalOn b out) (pop-step out)
 
-  pub undo-kept : (t : ℕ) (raw : List ℕ) → bytesSound (bytesOn b (undoStep b t raw)) ≡ true
-  undo-kept t raw = on-sound (undoStep b t raw) (undo-step t raw)
+  pub undo-kept : (t : ℕ) (raw : List ℕ) → bytesSound (bytesOn b (undoOn b t raw)) ≡ true
+  undo-kept t raw = on-sound (undoOn b t raw) (undo-step t raw)
 
-  pub method-kept : (m : ℕ) → bytesSound (bytesOn b (methodStep b m)) ≡ true
-  method-kept m = on-sound (methodStep b m) (method-step m)
+  pub method-kept : (m : ℕ) → bytesSound (bytesOn b (methodOn b m)) ≡ true
+  method-kept m = on-sound (methodOn b m) (method-step m)
 
-  pub mode-kept : (o : ℕ) → bytesSound (bytesOn b (modeStep b o)) ≡ true
-  mode-kept o = on-sound (modeStep b o) (mode-step o)
+  pub mode-kept : (o : ℕ) → bytesSound (bytesOn b (modeOn b o)) ≡ true
+  mode-kept o = on-sound (modeOn b o) (mode-step o)
 
 pub new-made : (m : InputMethod) → bytesSound (bytesOf (created m)) ≡ true
 new-made m = written-sound (created m) (new-sound m)
@@ -98,20 +99,20 @@ new-makes-sound b m n e = rw e (new-made (methodOf m))
 -- ---- every call on a composition, by name: what it leaves of the bytes b
 pub data Leaves (b : List ℕ) : List ℕ → Type 0 where
   byNew : (m : ℕ) → Leaves b (newBytes b m)
-  byKey : (key : ℕ) (out : List ℕ) → Leaves b (bytesOn b (keyStep b key out))
+  byKey : (key : ℕ) (out : List ℕ) → Leaves b (bytesOn b (keyOn b key out))
   byText : Leaves b b
-  byLiteral : (l : ℕ) → Leaves b (bytesOn b (literalStep b l))
-  byRemoval : (out : List ℕ) → Leaves b (bytesOn b (popStep b out))
-  byUndo : (t : ℕ) (raw : List ℕ) → Leaves b (bytesOn b (undoStep b t raw))
-  byReset : Leaves b (bytesOn b (resetStep b))
-  byMethod : (m : ℕ) → Leaves b (bytesOn b (methodStep b m))
-  byMode : (o : ℕ) → Leaves b (bytesOn b (modeStep b o))
+  byLiteral : (l : ℕ) → Leaves b (bytesOn b (literalOn b l))
+  byRemoval : (out : List ℕ) → Leaves b (bytesOn b (removalOn b out))
+  byUndo : (t : ℕ) (raw : List ℕ) → Leaves b (bytesOn b (undoOn b t raw))
+  byReset : Leaves b (bytesOn b (resetOn b))
+  byMethod : (m : ℕ) → Leaves b (bytesOn b (methodOn b m))
+  byMode : (o : ℕ) → Leaves b (bytesOn b (modeOn b o))
 
 new-kept : (b : List ℕ) → bytesSound b ≡ true → (m : ℕ) → bytesSound (newBytes b m) ≡ true
 unfolding newBytes
 new-kept b h m = go (newOn b m)
   where
-    go : (a : Answer) → bytesSound (after a b (created (methodOf m))) ≡ true
+    go : (a : Answer) → bytesSound (bytesAfter a b (created (methodOf m))) ≡ true
     go (Done n) = new-made (methodOf m)
     go (Refused r) = h
 

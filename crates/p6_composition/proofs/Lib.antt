@@ -1,4 +1,4 @@
-pub mod Steps
+pub mod UndoAnswer
 pub mod Kept
 pub mod Calls
 pub mod Counted

@@ -12,15 +12,15 @@ use denote.Triple.Clauses.{Lasts, AtExit, atExit}
 use borrow.Fn.Kinds.{PK, Out, Dens, endedOf, rNum}
 use Rattle.p0_refusals.specs.Answers.{Outcome, refusalOf, answer, output}
 use Rattle.p0_refusals.specs.declared.Answer.{Answer}
-use Rattle.p3_cells.specs.declared.Changed.{Changed}
+use Rattle.p3_cells.specs.declared.After.{After}
 use Rattle.p4_spelling.specs.Answers.{cutAnswer, verdictAnswer}
-use Rattle.p5_utf8_read.specs.Read.{reading}
-use Rattle.p5_utf8_write.specs.Write.{writing}
-use Rattle.p6_composition.specs.Calls.{answerOn, bytesOn, keyStep, resetStep, literalStep, popStep, undoStep, methodStep, modeStep, textOn}
+use Rattle.p5_utf8_text.specs.Read.{reading}
+use Rattle.p5_utf8_text.specs.Write.{writing}
+use Rattle.p6_composition.specs.Calls.{answerOn, bytesOn, keyOn, resetOn, literalOn, removalOn, undoOn, methodOn, modeOn, textOn}
 use Rattle.p6_host.specs.Counts.{countOut}
-use Rattle.p6_host.proofs.Refused.{letter-kept, tone-kept, method-key-kept, mark-kept, sound-kept}
-use Rattle.p6_host.proofs.Refused.{onset-kept, vowels-kept, verdict-kept, count-kept, behaviour-kept, output-kept}
-use Rattle.p6_host.proofs.Refused.{bytes-kept, new-kept, text-out-kept, pop-out-kept, key-out-kept}
+use Rattle.p6_host.proofs.Refused.{letter-kept, tone-kept, method-key-kept, mark-kept, sound-kept, onset-kept, vowels-kept}
+use Rattle.p6_host.proofs.Refused.{verdict-kept, count-kept, behaviour-kept, output-kept, bytes-kept, new-kept, text-out-kept}
+use Rattle.p6_host.proofs.Refused.{pop-out-kept, key-out-kept}
 use Rattle.p6_host.proofs.composition as composition
 use Rattle.p6_host.proofs.input_method as method
 use Rattle.p6_host.proofs.letters as letters
@@ -151,7 +151,7 @@ text-keeps κs a z w q h =
     beside (a .0) (output-and-count (a .1 .0) (a .1 .1 .0) g (text-out-kept (a .0 .now) (a .1 .0 .now)) q h)
 
 -- ---- a composition's bytes: k is what the call leaves of it, and x stands after them
-module _ {A : Type 0} (p : RefT (List ℕ)) (x : A) (k : Changed) {z : ℕ} {w : List ℕ}
+module _ {A : Type 0} (p : RefT (List ℕ)) (x : A) (k : After) {z : ℕ} {w : List ℕ}
     (q : (z ≡ refusalOf (answerOn (p .now) k)) × (w ≡ bytesOn (p .now) k)) (h : z ≡ 0 → ⊥) where
   lent-bytes : _≡_ {A = RefT (List ℕ) × A} (at-last p w, x) (p, x)
   lent-bytes = lent p (bytes-kept (p .now) k) q h refl
@@ -160,35 +160,35 @@ pub new-keeps : Keeps composition.pasdrongel_new.Kinds.ps composition.pasdrongel
 new-keeps κs a z w q h = lent (a .0) (new-kept (a .0 .now) (a .1 .0)) q h refl
 
 pub literal-keeps : Keeps composition.pasdrongel_literal.Kinds.ps composition.pasdrongel_literal.Reads.Learnt (λ κs a. a)
-literal-keeps κs a z w q h = lent-bytes (a .0) (a .1) (literalStep (a .0 .now) (a .1 .0)) q h
+literal-keeps κs a z w q h = lent-bytes (a .0) (a .1) (literalOn (a .0 .now) (a .1 .0)) q h
 
 pub reset-keeps : Keeps composition.pasdrongel_reset.Kinds.ps composition.pasdrongel_reset.Reads.Learnt (λ κs a. a)
-reset-keeps κs a z w q h = lent-bytes (a .0) (a .1) (resetStep (a .0 .now)) q h
+reset-keeps κs a z w q h = lent-bytes (a .0) (a .1) (resetOn (a .0 .now)) q h
 
 pub set-method-keeps : Keeps composition.pasdrongel_set_method.Kinds.ps composition.pasdrongel_set_method.Reads.Learnt (λ κs a. a)
-set-method-keeps κs a z w q h = lent-bytes (a .0) (a .1) (methodStep (a .0 .now) (a .1 .0)) q h
+set-method-keeps κs a z w q h = lent-bytes (a .0) (a .1) (methodOn (a .0 .now) (a .1 .0)) q h
 
 pub set-mode-keeps : Keeps composition.pasdrongel_set_mode.Kinds.ps composition.pasdrongel_set_mode.Reads.Learnt (λ κs a. a)
-set-mode-keeps κs a z w q h = lent-bytes (a .0) (a .1) (modeStep (a .0 .now) (a .1 .0)) q h
+set-mode-keeps κs a z w q h = lent-bytes (a .0) (a .1) (modeOn (a .0 .now) (a .1 .0)) q h
 
 -- ---- bytes and a number
 pub undo-keeps : Keeps composition.pasdrongel_undo.Kinds.ps composition.pasdrongel_undo.Reads.Learnt (λ κs a. a)
 undo-keeps κs a z w q h =
-    let k = undoStep (a .0 .now) (a .1 .0) (a .1 .1 .0 .now) in
+    let k = undoOn (a .0 .now) (a .1 .0) (a .1 .1 .0 .now) in
     let number = lent-number (a .1 .1 .0) (a .1 .1 .1 .0) (behaviour-kept (answerOn (a .0 .now) k) _) (q .0, q .1 .1) h in
     lent (a .0) (bytes-kept (a .0 .now) k) (q .0, q .1 .0) h (beside (a .1 .0) number)
 
 -- ---- bytes, an output and a count
 pub remove-last-keeps : Keeps composition.pasdrongel_remove_last.Kinds.ps composition.pasdrongel_remove_last.Reads.Learnt (λ κs a. a)
 remove-last-keeps κs a z w q h =
-    let k = popStep (a .0 .now) (a .1 .0 .now) in
+    let k = removalOn (a .0 .now) (a .1 .0 .now) in
     let out = pop-out-kept (a .0 .now) (a .1 .0 .now) in
     let rest = output-and-count (a .1 .0) (a .1 .1 .0) (answerOn (a .0 .now) k) out (q .0, q .1 .1) h in
     lent (a .0) (bytes-kept (a .0 .now) k) (q .0, q .1 .0) h rest
 
 pub key-keeps : Keeps composition.pasdrongel_key.Kinds.ps composition.pasdrongel_key.Reads.Learnt (λ κs a. a)
 key-keeps κs a z w q h =
-    let k = keyStep (a .0 .now) (a .1 .0) (a .1 .1 .0 .now) in
+    let k = keyOn (a .0 .now) (a .1 .0) (a .1 .1 .0 .now) in
     let out = key-out-kept (a .0 .now) (a .1 .1 .0 .now) (a .1 .0) in
     let rest = output-and-count (a .1 .1 .0) (a .1 .1 .1 .0) (answerOn (a .0 .now) k) out (q .0, q .1 .1) h in
     lent (a .0) (bytes-kept (a .0 .now) k) (q .0, q .1 .0) h (beside (a .1 .0) rest)

@@ -12,9 +12,9 @@ use Rattle.p0_refusals.specs.declared.Answer.{Answer}
 use Rattle.p0_refusals.specs.declared.Answer.the-variants.{Done, Refused}
 use Rattle.p0_refusals.specs.declared.Refusal.the-variants.{Foreign, Unsound}
 use Rattle.p1_letters.specs.Alphabet.{inAlphabet}
-use Rattle.p3_calls.specs.Output.{textOutcome, popOutcome, popped}
-use Rattle.p3_cells.specs.Leaving.{changed}
-use Rattle.p3_cells.specs.declared.Changed.{Changed}
+use Rattle.p3_calls.specs.Output.{textOutcome, removalOutcome, removed}
+use Rattle.p3_cells.specs.Leaving.{leaving}
+use Rattle.p3_cells.specs.declared.After.{After}
 use Rattle.p3_key.specs.Process.{keyOutcome, keyed}
 use Rattle.p4_spelling.specs.Answers.{cutNumber, verdictNumber}
 use Rattle.p4_spelling.specs.declared.Cut.{Cut}
@@ -22,7 +22,7 @@ use Rattle.p4_spelling.specs.declared.Cut.the-variants as Cuts
 use Rattle.p4_spelling.specs.declared.Verdict.{Verdict}
 use Rattle.p4_spelling.specs.declared.Verdict.the-variants as Verdicts
 use Rattle.p6_bytes.specs.Bytes.{bytesOf, bytesSound, compositionOf}
-use Rattle.p6_composition.specs.Calls.{answerOn, bytesOn, outOn, keyStep, popStep, textOn, newOn, newBytes}
+use Rattle.p6_composition.specs.Calls.{answerOn, bytesOn, outOn, keyOn, removalOn, textOn, newOn, newBytes}
 use Rattle.p6_host.specs.CompositionCalls.{soundCode, soundOut}
 use Rattle.p6_host.specs.Counts.{countOut, behaviourOut}
 use Rattle.p6_host.specs.LetterCalls.{letterCode, letterOut, toneCode, toneOut}
@@ -87,7 +87,7 @@ unfolding output
 output-kept u o h = unless-kept (answer u (length o)) o (onto (content u) o) h
 
 -- ---- a composition's bytes, and an output beside them
-pub bytes-kept : (b : List ℕ) (k : Changed) → (refusalOf (answerOn b k) ≡ 0 → ⊥) → bytesOn b k ≡ b
+pub bytes-kept : (b : List ℕ) (k : After) → (refusalOf (answerOn b k) ≡ 0 → ⊥) → bytesOn b k ≡ b
 unfolding bytesOn
 bytes-kept b k h = unless-kept (answerOn b k) b (bytesOf (k .comp)) h
 
@@ -105,10 +105,10 @@ module _ (b o : List ℕ) where
   unfolding textOn outOn
   text-out-kept h = out-kept (bytesSound b) (textOutcome (compositionOf b)) o h
 
-  pub pop-out-kept : (refusalOf (answerOn b (popStep b o)) ≡ 0 → ⊥) → outOn b (popOutcome (compositionOf b)) o ≡ o
-  unfolding answerOn outOn popStep popped changed
-  pop-out-kept h = out-kept (bytesSound b) (popOutcome (compositionOf b)) o h
+  pub pop-out-kept : (refusalOf (answerOn b (removalOn b o)) ≡ 0 → ⊥) → outOn b (removalOutcome (compositionOf b)) o ≡ o
+  unfolding answerOn outOn removalOn removed leaving
+  pop-out-kept h = out-kept (bytesSound b) (removalOutcome (compositionOf b)) o h
 
-  pub key-out-kept : (key : ℕ) → (refusalOf (answerOn b (keyStep b key o)) ≡ 0 → ⊥) → outOn b (keyOutcome (compositionOf b) key) o ≡ o
-  unfolding answerOn outOn keyStep keyed changed
+  pub key-out-kept : (key : ℕ) → (refusalOf (answerOn b (keyOn b key o)) ≡ 0 → ⊥) → outOn b (keyOutcome (compositionOf b) key) o ≡ o
+  unfolding answerOn outOn keyOn keyed leaving
   key-out-kept key h = out-kept (bytesSound b) (keyOutcome (compositionOf b) key) o h

@@ -4,7 +4,7 @@ use mathlib.Core.Path.{_≡_}
 use Rattle.p0_refusals.specs.Limits.{letterLimit, byteLimit}
 use Rattle.p3_cells.specs.Cells.{limit}
 use Rattle.p4_spelling.specs.Verdict.{longestLength}
-use Rattle.p5_utf8_write.specs.Write.{writeRoom}
+use Rattle.p5_utf8_text.specs.Write.{writeRoom}
 use Rattle.p6_bytes.specs.Bytes.{size}
 
 pub record Header : Type 0 where

@@ -12,7 +12,7 @@ use lib.Seq.{paste-suc, take-suc-set, length-take-le, take-all}
 use Rattle.p0_choice.proofs.Choices.{pick-lt, pick-not-lt, pick-eq, pick-ne, pick-both}
 use Rattle.p0_choice.specs.Text.{lineEnd}
 use Rattle.p3_cells.specs.Cells.{limit}
-use Rattle.p7_bench.specs.Run.{after}
+use Rattle.p7_bench.specs.Run.{afterKeys}
 use Rattle.p7_bench.specs.Floor.{Sheet, copied, freePlace, longer, lay, blankSheet}
 use Rattle.p7_bench.proofs.Run.{Run, run-start, run-more, run-end}
 
@@ -27,7 +27,8 @@ module _ (row d : List ℕ) (n : ℕ) (w : n ≤ length row) where
   unfolding copied
   copy-short h = rw (length-take-le n row (omega arith)) (pick-lt (length d) n _ _ _ h refl)
 
-  pub copy-more : (text : List ℕ) (i : ℕ) → n ≤ length d → i < n → Copying row d n text i → Copying row d n (set text i (getD row i 0)) (i + 1)
+  pub copy-more : (text : List ℕ) (i : ℕ) → n ≤ length d → i < n → Copying row d n text i
+      → Copying row d n (set text i (getD row i 0)) (i + 1)
   copy-more text i r h c = record {
     within = omega arith;
     kept = length-set text i _ ∙ c .kept;
@@ -85,10 +86,12 @@ module _ (keys d : List ℕ) where
     lay-room at k b = rw (length-set row at k, l .wide) (omega arith)
 
     pub lay-more : (at : ℕ) (text' : List ℕ) → at ≡ freePlace count → at < limit → (getD keys i 0 ≡ lineEnd → ⊥)
-        → text' ≡ copied (take (at + 1) (set row at (getD keys i 0))) text → Laying keys d text' (set row at (getD keys i 0)) (at + 1) (i + 1)
+        → text' ≡ copied (take (at + 1) (set row at (getD keys i 0))) text
+        → Laying keys d text' (set row at (getD keys i 0)) (at + 1) (i + 1)
     unfolding lay longer
     lay-more at text' f b n e =
-        let r : take (at + 1) (set row at (getD keys i 0)) ≡ longer (take count row) (getD keys i 0) = rw (add-one, take-suc-set row at (getD keys i 0) (omega (arith, l .wide)), stays row count (l .wide) (l .few), ← f) refl in
+        let r : take (at + 1) (set row at (getD keys i 0)) ≡ longer (take count row) (getD keys i 0) =
+        rw (add-one, take-suc-set row at (getD keys i 0) (omega (arith, l .wide)), stays row count (l .wide) (l .few), ← f) refl in
         record {
           few = omega arith;
           wide = length-set row at _ ∙ l .wide;
@@ -97,10 +100,10 @@ module _ (keys d : List ℕ) where
         }
 
   module _ (text row : List ℕ) (count i : ℕ) (h : length keys ≤ i) (l : Laying keys d text row count i) where
-    pub lay-count : count ≡ length (after lay (blankSheet d) keys .row)
+    pub lay-count : count ≡ length (afterKeys lay (blankSheet d) keys .row)
     lay-count =
         sym (length-take-le count row (omega (arith, l .few, l .wide)))
         ∙ ap (λ (p : Sheet). length (p .row)) (run-end lay (blankSheet d) keys _ i h (l .run))
 
-    pub lay-text : text ≡ after lay (blankSheet d) keys .text
+    pub lay-text : text ≡ afterKeys lay (blankSheet d) keys .text
     lay-text = ap (λ (p : Sheet). p .text) (run-end lay (blankSheet d) keys _ i h (l .run))

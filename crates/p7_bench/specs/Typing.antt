@@ -23,8 +23,8 @@ refusalsOf (Done n) = 0
 refusalsOf (Refused r) = 1
 
 -- a line end starts afresh
-unfoldable pub press : Typed → ℕ → Typed
-press t k =
+unfoldable pub typeKey : Typed → ℕ → Typed
+typeKey t k =
     pick (eqb k lineEnd) (record { comp = created Telex; text = t .text; refused = t .refused })
     (record {
       comp = keyed (t .comp) k (length (t .text)) .comp;

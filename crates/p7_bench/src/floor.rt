@@ -4,7 +4,7 @@ ghost use mathlib.Core.Path.{_≡_};
 ghost use Prim.Native.Nat.{_<_, _≤_};
 ghost use lib.ListN.{length, take};
 ghost use Rattle.p3_cells.specs.Cells.{limit};
-ghost use Rattle.p7_bench.specs.Run.{after};
+ghost use Rattle.p7_bench.specs.Run.{afterKeys};
 ghost use Rattle.p7_bench.specs.Floor.{copied, freePlace, lay, blankSheet};
 use p3_cells::LIMIT;
 
@@ -36,8 +36,8 @@ fn free_place(count: usize) -> usize
 // Answers how many letters are in the row at the end.
 #[no_mangle]
 pub extern "C" fn pasdrongel_bench_floor(keys: &[u32], text: &mut [u32]) -> usize
-    ensures { λ r. ⌜ r ≡ length (after lay (blankSheet (now (text .entry))) (now (keys .entry)) .row) ⌝ }
-    ensures { λ r. ⌜ now (text .exit) ≡ after lay (blankSheet (now (text .entry))) (now (keys .entry)) .text ⌝ }
+    ensures { λ r. ⌜ r ≡ length (afterKeys lay (blankSheet (now (text .entry))) (now (keys .entry)) .row) ⌝ }
+    ensures { λ r. ⌜ now (text .exit) ≡ afterKeys lay (blankSheet (now (text .entry))) (now (keys .entry)) .text ⌝ }
 {
     let mut row = [0u32; LIMIT];
     let mut count: usize = 0;

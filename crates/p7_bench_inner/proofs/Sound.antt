@@ -10,12 +10,12 @@ use Rattle.p3_calls.proofs.Kept.{new-sound}
 use Rattle.p3_cells.specs.Cells.{isSound}
 use Rattle.p3_cells.specs.declared.Composition.{Composition}
 use Rattle.p3_key.specs.Process.{keyed}
-use Rattle.p3_cells.specs.declared.Changed.{Changed}
+use Rattle.p3_cells.specs.declared.After.{After}
 use Rattle.p3_key.proofs.Kept.{key-sound}
 
 pub fresh-sound : (c : Composition) → c ≡ created Telex → isSound c ≡ true
 fresh-sound c e = rw e (new-sound Telex)
 
-pub typed-sound : (c : Composition) (k : ℕ) (text : List ℕ) (r : Changed) → isSound c ≡ true → r ≡ keyed c k (length text)
+pub typed-sound : (c : Composition) (k : ℕ) (text : List ℕ) (r : After) → isSound c ≡ true → r ≡ keyed c k (length text)
     → isSound (r .comp) ≡ true
 typed-sound c k text r s e = rw e (key-sound c k (length text) s)

@@ -18,13 +18,13 @@ use Rattle.p0_refusals.specs.declared.Refusal.the-variants.{Long}
 use Rattle.p1_letters.specs.Alphabet.{allLetters}
 use Rattle.p5_utf8.specs.Rfc3629.{encodeAll}
 use Rattle.p5_utf8.proofs.Encode.{many-bytes}
-use Rattle.p5_utf8_read.specs.Read.{letters, reading}
-use Rattle.p5_utf8_read.proofs.Exact.{letters-exactly}
+use Rattle.p5_utf8_text.specs.Read.{letters, reading}
+use Rattle.p5_utf8_text.proofs.Exact.{letters-exactly}
 use Rattle.p7_line.specs.declared.Begun.{Begun}
 use Rattle.p7_line.specs.declared.Begun.the-variants.{Refused as Not}
 use Rattle.p2_input_method.specs.declared.InputMethod.{InputMethod}
-use Rattle.p7_line.specs.Line.{typed, typedLine, refusedLine, keysLine, lineOut}
-use Rattle.p7_line.specs.Method.{methodNamed, methodOf}
+use Rattle.p7_line.specs.Line.{keysMade, madeLine, refusedLine, keysLine, lineOut}
+use Rattle.p7_line.specs.Method.{methodNamed, begunBy}
 
 -- what is read is no more letters than bytes may be, and all of the alphabet
 pub read-small : (s xs : List ℕ) → reading s ≡ writes xs → (length xs ≤ byteLimit) × (allLetters xs ≡ true)
@@ -71,13 +71,14 @@ module _ (s o : List ℕ) (g : Answer) (e : g ≡ answer (reading s) (length o))
   read-done n out q f = read-whole n out q f .0
 
   -- the method line
-  pub method-refused : (r : Refusal) → g ≡ Refused r → Not r ≡ methodOf s
-  unfolding methodOf methodNamed
+  pub method-refused : (r : Refusal) → g ≡ Refused r → Not r ≡ begunBy s
+  unfolding begunBy methodNamed
   method-refused r q = rw (read-refused r q) refl
 
-  pub method-named : (n : ℕ) (out name : List ℕ) (b : Begun) → g ≡ Done n → out ≡ output (reading s) o → name ≡ take n out → b ≡ methodNamed (writes name)
-      → b ≡ methodOf s
-  unfolding methodOf
+  pub method-named : (n : ℕ) (out name : List ℕ) (b : Begun) → g ≡ Done n → out ≡ output (reading s) o → name ≡ take n out
+      → b ≡ methodNamed (writes name)
+      → b ≡ begunBy s
+  unfolding begunBy
   method-named n out name b q f k h = rw (read-done n out q f, ← k) h
 
   -- a line of keys: refused as it is read ..
@@ -89,20 +90,22 @@ module _ (s o : List ℕ) (g : Answer) (e : g ≡ answer (reading s) (length o))
     pub refused-line-end : (e at : ℕ) → e ≡ at + length (refusedLine r) → e ≡ at + length (lineOut m s)
     refused-line-end e at h = rw keys-refused h
 
-    pub refused-line-out : (e at : ℕ) (o1 o2 : List ℕ) → o2 ≡ take at o1 ++ (refusedLine r ++ drop e o1) → o2 ≡ take at o1 ++ (lineOut m s ++ drop e o1)
+    pub refused-line-out : (e at : ℕ) (o1 o2 : List ℕ) → o2 ≡ take at o1 ++ (refusedLine r ++ drop e o1)
+        → o2 ≡ take at o1 ++ (lineOut m s ++ drop e o1)
     refused-line-out e at o1 o2 h = rw keys-refused h
 
-  -- .. or typed
+  -- .. or keysMade
   module _ (m : InputMethod) (n : ℕ) (out keys : List ℕ) (q : g ≡ Done n) (f : out ≡ output (reading s) o) (k : keys ≡ take n out) where
     pub keys-letters : allLetters keys ≡ true
     keys-letters = rw k (read-small s (take n out) (read-done n out q f) .1)
 
-    keys-typed : lineOut m s ≡ typedLine (typed m [] keys)
+    keys-typed : lineOut m s ≡ madeLine (keysMade m [] keys)
     unfolding lineOut keysLine
     keys-typed = rw (read-done n out q f, k) refl
 
-    pub typed-line-end : (e at : ℕ) → e ≡ at + length (typedLine (typed m [] keys)) → e ≡ at + length (lineOut m s)
+    pub typed-line-end : (e at : ℕ) → e ≡ at + length (madeLine (keysMade m [] keys)) → e ≡ at + length (lineOut m s)
     typed-line-end e at h = rw keys-typed h
 
-    pub typed-line-out : (e at : ℕ) (o1 o2 : List ℕ) → o2 ≡ take at o1 ++ (typedLine (typed m [] keys) ++ drop e o1) → o2 ≡ take at o1 ++ (lineOut m s ++ drop e o1)
+    pub typed-line-out : (e at : ℕ) (o1 o2 : List ℕ) → o2 ≡ take at o1 ++ (madeLine (keysMade m [] keys) ++ drop e o1)
+        → o2 ≡ take at o1 ++ (lineOut m s ++ drop e o1)
     typed-line-out e at o1 o2 h = rw keys-typed h

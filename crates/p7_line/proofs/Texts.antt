@@ -18,10 +18,12 @@ use Rattle.p1_letters.specs.Alphabet.{allLetters}
 use Rattle.p3_cells.specs.Cells.{limit}
 use Rattle.p4_spelling.specs.Verdict.{verdict}
 use Rattle.p5_utf8.specs.Rfc3629.{encodeAll}
-use Rattle.p5_utf8_write.specs.Write.{writing}
-use Rattle.p5_utf8_write.proofs.Alphabet.{few-bytes}
-use Rattle.p7_line.specs.Line.{textBytes, lineRoom, textLine}
-use Rattle.p0_slices.proofs.Written.{put-after}
+use Rattle.p5_utf8_text.specs.Write.{writing}
+use Rattle.p5_utf8_text.proofs.Alphabet.{few-bytes}
+use Rattle.p7_line.specs.Line.{textLine}
+use Rattle.p7_line.specs.Mirror.{lineRoom}
+use Rattle.p7_line.specs.Mirror.{textBytes}
+use Rattle.p7_slices.proofs.Written.{put-after}
 
 module _ (text : List ℕ) (a : allLetters text ≡ true) (h : length text ≤ limit) where
   text-bytes : writing text ≡ writes (encodeAll text)
@@ -45,7 +47,8 @@ module _ (text : List ℕ) (a : allLetters text ≡ true) (h : length text ≤ l
       text-first =
           let d = text-done in
           let k : n ≡ length (encodeAll text) = cc in
-          let w : out ≡ onto (encodeAll text) o = f ∙ rw (text-bytes, le-ltb (length o) (length (encodeAll text)) (omega (arith, text-small))) refl in
+          let w : out ≡ onto (encodeAll text) o =
+          f ∙ rw (text-bytes, le-ltb (length o) (length (encodeAll text)) (omega (arith, text-small))) refl in
           t ∙ rw w (take-at (encodeAll text) (drop (length (encodeAll text)) o) n (sym k))
 
       pub text-room : (at m : ℕ) → at + lineRoom ≤ m → at + length bs ≤ m
@@ -61,7 +64,8 @@ module _ (text : List ℕ) (a : allLetters text ≡ true) (h : length text ≤ l
       text-out at r o1 o2 k = rw text-first at k
 
 -- the bytes and their verdict are the line
-module _ (text : List ℕ) (s b : Bool) (i : s ≡ verdict text) (y : s ≡ b) (p : List ℕ) (j : 9 ∷ (pick b (word "yes") (word "no") ++ (10 ∷ [])) ≡ p) (at next r : ℕ)
+module _ (text : List ℕ) (s b : Bool) (i : s ≡ verdict text) (y : s ≡ b) (p : List ℕ)
+    (j : 9 ∷ (pick b (word "yes") (word "no") ++ (10 ∷ [])) ≡ p) (at next r : ℕ)
     (c : next ≡ at + length (encodeAll text)) (d : r ≡ next + length p) where
   line-bytes : textLine text ≡ encodeAll text ++ p
   unfolding textLine

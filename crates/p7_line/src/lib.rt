@@ -10,20 +10,22 @@ ghost use Rattle.p5_utf8.specs.Rfc3629.{encodeAll};
 ghost use Rattle.p4_rows.specs.Lookup.{sameWord};
 ghost use Rattle.p0_refusals.specs.Answers.{writes};
 ghost use mathlib.Core.List.{[]};
-ghost use Rattle.p7_line.specs.Line.{textBytes, lineRoom, refusedLine, textLine, typed, typedLine, lineOut};
-ghost use Rattle.p7_line.specs.Method.{methodNamed, methodOf};
+ghost use Rattle.p7_line.specs.Line.{refusedLine, textLine, keysMade, madeLine, lineOut};
+ghost use Rattle.p7_line.specs.Mirror.{lineRoom};
+ghost use Rattle.p7_line.specs.Mirror.{textBytes};
+ghost use Rattle.p7_line.specs.Method.{methodNamed, begunBy};
 use p0_refusals::Answer;
 use p0_refusals::BYTES;
 use p0_refusals::Refusal;
-use p0_slices as slices;
 use p2_input_method::InputMethod;
 use p3_cells::LIMIT;
+use p7_slices as slices;
 
 // So much of a line decides what it prints; `most` says the same.
 pub const MOST: usize = BYTES + 1;
 
 // The most bytes of a composed text; `textBytes` says the same.
-const TEXT: usize = p5_utf8_write::WIDTH * LIMIT;
+const TEXT: usize = p5_utf8_text::writer::WIDTH * LIMIT;
 
 // The most that a line prints; `lineRoom` says the same.
 pub const ROOM: usize = TEXT + 5;
@@ -36,7 +38,8 @@ pub enum Begun {
 
 pub fn put_refused(refusal: Refusal, out: &mut [u8], at: usize) -> usize
     requires { ⌜ at + 11 ≤ length (now out) ⌝ }
-    ensures { λ r. ⌜ (r ≡ at + length (refusedLine refusal)) × (r ≤ at + lineRoom) × (now (out .exit) ≡ take at (now (out .entry)) ++ (refusedLine refusal ++ drop r (now (out .entry)))) ⌝ }
+    ensures { λ r. ⌜ (r ≡ at + length (refusedLine refusal)) × (r ≤ at + lineRoom)
+        × (now (out .exit) ≡ take at (now (out .entry)) ++ (refusedLine refusal ++ drop r (now (out .entry)))) ⌝ }
 {
     match refusal {
         Refusal::Foreign => slices::put(b"refused 1\n", out, at),
@@ -84,10 +87,10 @@ fn named(name: &[u32]) -> Begun
 
 // The method line.
 pub fn method_line(line: &[u8]) -> Begun
-    ensures { λ r. ⌜ r ≡ methodOf (now (line .entry)) ⌝ }
+    ensures { λ r. ⌜ r ≡ begunBy (now (line .entry)) ⌝ }
 {
     let mut letters = [0u32; BYTES];
-    let given = p5_utf8_read::read(line, &mut letters);
+    let given = p5_utf8_text::reader::read(line, &mut letters);
     match given {
         Answer::Refused(refusal) => Begun::Refused(refusal),
         Answer::Done(n) => named(slices::first(&letters, n)),
@@ -101,7 +104,7 @@ fn put_text(text: &[u32], out: &mut [u8], at: usize) -> usize
         × (now (out .exit) ≡ take at (now (out .entry)) ++ (encodeAll (now (text .entry)) ++ drop r (now (out .entry)))) ⌝ }
 {
     let mut bytes = [0u8; TEXT];
-    let given = p5_utf8_write::write(text, &mut bytes);
+    let given = p5_utf8_text::writer::write(text, &mut bytes);
     match given {
         Answer::Refused(_) => at,
         Answer::Done(n) => slices::put(slices::first_bytes(&bytes, n), out, at),
@@ -111,7 +114,8 @@ fn put_text(text: &[u32], out: &mut [u8], at: usize) -> usize
 // A composed text, a tab, and its verdict.
 fn text_line(text: &[u32], out: &mut [u8], at: usize) -> usize
     requires { ⌜ (length (now text) ≤ limit) × (allLetters (now text) ≡ true) × (at + lineRoom ≤ length (now out)) ⌝ }
-    ensures { λ r. ⌜ (r ≡ at + length (textLine (now (text .entry)))) × (r ≤ at + lineRoom) × (now (out .exit) ≡ take at (now (out .entry)) ++ (textLine (now (text .entry)) ++ drop r (now (out .entry)))) ⌝ }
+    ensures { λ r. ⌜ (r ≡ at + length (textLine (now (text .entry)))) × (r ≤ at + lineRoom)
+        × (now (out .exit) ≡ take at (now (out .entry)) ++ (textLine (now (text .entry)) ++ drop r (now (out .entry)))) ⌝ }
 {
     let next = put_text(text, out, at);
     if p4_spelling::accepts(text) {
@@ -123,7 +127,8 @@ fn text_line(text: &[u32], out: &mut [u8], at: usize) -> usize
 // Keys on a fresh composition: its text with the verdict, or the refusal of the first append that finds all cells used.
 fn keys_line(m: InputMethod, keys: &[u32], out: &mut [u8], at: usize) -> usize
     requires { ⌜ (allLetters (now keys) ≡ true) × (at + lineRoom ≤ length (now out)) ⌝ }
-    ensures { λ r. ⌜ (r ≡ at + length (typedLine (typed m [] (now (keys .entry))))) × (r ≤ at + lineRoom) × (now (out .exit) ≡ take at (now (out .entry)) ++ (typedLine (typed m [] (now (keys .entry))) ++ drop r (now (out .entry)))) ⌝ }
+    ensures { λ r. ⌜ (r ≡ at + length (madeLine (keysMade m [] (now (keys .entry))))) × (r ≤ at + lineRoom)
+        × (now (out .exit) ≡ take at (now (out .entry)) ++ (madeLine (keysMade m [] (now (keys .entry))) ++ drop r (now (out .entry)))) ⌝ }
 {
     let mut c = p3_calls::new(m);
     let mut text = [0u32; LIMIT];
@@ -148,10 +153,11 @@ fn keys_line(m: InputMethod, keys: &[u32], out: &mut [u8], at: usize) -> usize
 // A line of keys, with what it prints and its line feed.
 pub fn line_out(m: InputMethod, line: &[u8], out: &mut [u8], at: usize) -> usize
     requires { ⌜ at + lineRoom ≤ length (now out) ⌝ }
-    ensures { λ r. ⌜ (r ≡ at + length (lineOut m (now (line .entry)))) × (r ≤ at + lineRoom) × (now (out .exit) ≡ take at (now (out .entry)) ++ (lineOut m (now (line .entry)) ++ drop r (now (out .entry)))) ⌝ }
+    ensures { λ r. ⌜ (r ≡ at + length (lineOut m (now (line .entry)))) × (r ≤ at + lineRoom)
+        × (now (out .exit) ≡ take at (now (out .entry)) ++ (lineOut m (now (line .entry)) ++ drop r (now (out .entry)))) ⌝ }
 {
     let mut letters = [0u32; BYTES];
-    let given = p5_utf8_read::read(line, &mut letters);
+    let given = p5_utf8_text::reader::read(line, &mut letters);
     match given {
         Answer::Refused(refusal) => put_refused(refusal, out, at),
         Answer::Done(n) => keys_line(m, slices::first(&letters, n), out, at),

@@ -1,16 +1,16 @@
 // Prints every listed word, one to a line, in UTF-8 and in order.
 use libc::STDOUT_FILENO;
 use p0_refusals::Answer;
-use p0_slices as slices;
 use p4_spelling::LONGEST;
+use p7_slices as slices;
 
 // The most bytes of a word.
-const WORD: usize = p5_utf8_write::WIDTH * LONGEST;
+const WORD: usize = p5_utf8_text::writer::WIDTH * LONGEST;
 
 // Writes a word and a line feed; false where it is not written.
 fn print(word: &[u32]) -> bool {
     let mut bytes = [0u8; WORD + 1];
-    let given = p5_utf8_write::write(word, &mut bytes);
+    let given = p5_utf8_text::writer::write(word, &mut bytes);
     match given {
         Answer::Refused(_) => false,
         Answer::Done(n) => {

@@ -21,4 +21,6 @@ pub pasdrongel-bench-sound-keys-spec : {M : Type 1} → statement M
 pasdrongel-bench-sound-keys-spec =
     tie.close
     (tie.spec Inv-loop μ-loop
-    (λ c κs. search typed) (λ c. search typed) (λ c. search typed) (λ c. search typed) (λ c. search typed) (λ c κs. search typed) (λ c. search typed) (λ c. search typed) (λ c κs. search typed) (λ c κs. search typed) (λ c. search typed) (λ c. search typed) (λ c. search typed) (λ c. search typed) (λ c. (search typed, search typed)))
+    (λ c κs. search typed) (λ c. search typed) (λ c. search typed) (λ c. search typed) (λ c. search typed) (λ c κs. search typed)
+    (λ c. search typed) (λ c. search typed) (λ c κs. search typed) (λ c κs. search typed) (λ c. search typed) (λ c. search typed)
+    (λ c. search typed) (λ c. search typed) (λ c. (search typed, search typed)))
