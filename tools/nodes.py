@@ -99,13 +99,14 @@ def lines(numbers, each, per):
 
 def definitions(tables):
     count = len(tables[0][2])
-    text = f"""-- The listed words as {count - 1} shared nodes: 0 is no node, and a node's down and next are lower numbers. Written by
+    text = f"""-- How the code holds things: no sentence of document 01 stands here, and no promise to a host leads here.
+-- The listed words as {count - 1} shared nodes: 0 is no node, and a node's down and next are lower numbers. Written by
 -- tools/nodes.py from the rows; nothing is believed of these numbers: proofs/Numbering shows that the words are the accepted ones.
 use Prim.Native.Nat.{{ℕ, zero, suc, _-_}}
 use mathlib.Core.List.{{List, [], _∷_}}
 use lib.Dec.{{eqb}}
 use lib.ListN.{{getD}}
-use Rattle.p5_trie.specs.Trie.{{Trie, none, node}}
+use Rattle.p5_trie.specs.Mirror.{{Trie, none, node}}
 
 -- how many nodes there are, node 0 among them; the last is the root
 abbrev pub nodeCount : ℕ
@@ -122,7 +123,8 @@ unfoldable pub grow : ℕ → ℕ → Trie
 grow zero e = none
 grow (suc k) zero = none
 grow (suc k) (suc e) =
-    node (getD letters (suc e) 0) (eqb (getD stops (suc e) 0) 1) (grow k (getD downs (suc e) 0)) (grow k (getD nexts (suc e) 0))
+    node (getD nodeLetters (suc e) 0) (eqb (getD nodeStops (suc e) 0) 1) (grow k (getD nodeDowns (suc e) 0))
+    (grow k (getD nodeNexts (suc e) 0))
 
 -- the trie of node e
 unfoldable pub trieAt : ℕ → Trie
@@ -136,7 +138,7 @@ listing = trieAt rootNode
 
 def constants(tables):
     # one number a line, as the formatter lays arrays out
-    text = f"""// The table of nodes that specs/Nodes.antt of p5_listing defines; written by tools/nodes.py.
+    text = f"""// The table of nodes that specs/Mirror.antt of p5_listing defines; written by tools/nodes.py.
 
 // how many nodes there are, node 0 among them; the last is the root
 const NODES: usize = {len(tables[0][2])};
@@ -144,7 +146,7 @@ const NODES: usize = {len(tables[0][2])};
 pub const ROOT: usize = NODES - 1;
 """
     for name, say, numbers, kind in tables:
-        text += f"\n// {say}\npub const {name.upper()}: [{kind}; NODES] = [\n" + lines(numbers, "{},", 1) + "\n];\n"
+        text += f"\n// {say}\npub const {name.removeprefix('node').upper()}: [{kind}; NODES] = [\n" + lines(numbers, "{},", 1) + "\n];\n"
     return text
 
 
@@ -153,11 +155,11 @@ def main():
     nodes, weights = shared_nodes(listed)
     letters, stops, downs, nexts = (list(column) for column in zip(*nodes))
     tables = [
-        ("letters", "the letter of each node", letters, "u16"),
-        ("stops", "1 where a word ends with the node's letter", stops, "u8"),
-        ("downs", "the first node below", downs, "u8"),
-        ("nexts", "the next node beside", nexts, "u8"),
-        ("weights", "how many words go through the node", weights, "u16"),
+        ("nodeLetters", "the letter of each node", letters, "u16"),
+        ("nodeStops", "1 where a word ends with the node's letter", stops, "u8"),
+        ("nodeDowns", "the first node below", downs, "u8"),
+        ("nodeNexts", "the next node beside", nexts, "u8"),
+        ("nodeWeights", "how many words go through the node", weights, "u16"),
     ]
     if "--words" in sys.argv:
         return print("\n".join(listed))

@@ -9,7 +9,7 @@ use denote.Triple.Clauses.{Lasts, atExit}
 use borrow.Fn.Kinds.{PK, RK, In, Out, Dens, resT, endedOf}
 
 module _ {n : ℕ} (ps : List (PK n)) (r : RK n) (Asked : In n ps) (Learnt : Out n ps r) where
-  -- two results, and two last contents of each lent place, that meet the `ensures` are the alike
+  -- two results, and two last contents of each lent place, that meet the `ensures` are the same
   abbrev pub Fixed : (κs : Lfts n) (a : Dens κs ps) → (resT r κs .Denot → resT r κs .Denot → Type 0) → Type 0
   Fixed κs a Same =
       (z z′ : resT r κs .Denot) (w w′ : Lasts (endedOf n ps r) κs a)

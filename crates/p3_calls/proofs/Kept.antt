@@ -18,7 +18,7 @@ use Rattle.p3_cells.specs.declared.Composition.{Composition}
 use Rattle.p3_cells.specs.declared.Mode.{Mode}
 use Rattle.p0_choice.proofs.Tests.{each-append, each-take}
 use Rattle.p3_cells.proofs.Made.{typed-cell}
-use Rattle.p3_cells.proofs.Leaving.{changed-keeps}
+use Rattle.p3_cells.proofs.Leaving.{leaving-keeps}
 use Rattle.p3_cells.proofs.Holding.{length-blanks, blanks-at, count-fits, used-length, used-cells, holding-sound}
 use Rattle.p3_cells.proofs.Soundness.{is-sound, sound-cells}
 use Rattle.p3_calls.specs.Settings.{empty, created, settled, resetTo, methodSet, turned, enabledSet}
@@ -46,11 +46,11 @@ new-sound m = empty-sound m _
 module _ (c : Composition) (s : isSound c ≡ true) where
   pub reset-sound : isSound (resetTo c .comp) ≡ true
   unfolding resetTo
-  reset-sound = changed-keeps Sound (answer (settled c) 0) c _ s (λ k e. empty-sound (c .method) (c .mode))
+  reset-sound = leaving-keeps Sound (answer (settled c) 0) c _ s (λ k e. empty-sound (c .method) (c .mode))
 
   pub set-method-sound : (m : InputMethod) → isSound (methodSet c m .comp) ≡ true
   unfolding methodSet
-  set-method-sound m = changed-keeps Sound (answer (settled c) 0) c _ s (λ k e. empty-sound m (c .mode))
+  set-method-sound m = leaving-keeps Sound (answer (settled c) 0) c _ s (λ k e. empty-sound m (c .mode))
 
   turned-sound : (on : Bool) → isSound (turned c on) ≡ true
   unfolding turned
@@ -59,7 +59,7 @@ module _ (c : Composition) (s : isSound c ≡ true) where
 
   pub set-enabled-sound : (on : Bool) → isSound (enabledSet c on .comp) ≡ true
   unfolding enabledSet
-  set-enabled-sound on = changed-keeps Sound (answer (settled c) 0) c _ s (λ k e. turned-sound on)
+  set-enabled-sound on = leaving-keeps Sound (answer (settled c) 0) c _ s (λ k e. turned-sound on)
 
   -- ---- the literal
   fits : (ch k : ℕ) → answer (literalOutcome c ch) 0 ≡ Done k → (inAlphabet ch ≡ true) × (length (used c) < limit)
@@ -77,16 +77,16 @@ module _ (c : Composition) (s : isSound c ≡ true) where
   pub literal-sound : (ch : ℕ) → isSound (literal c ch .comp) ≡ true
   unfolding literal
   literal-sound ch =
-      changed-keeps Sound (answer (literalOutcome c ch) 0) c _ s
+      leaving-keeps Sound (answer (literalOutcome c ch) 0) c _ s
       (λ k e. let f = fits ch k e in
       holding-sound c (used c ++ (typed ch ∷ [])) (rw length-append (omega arith))
       (each-append isCell (used c) (typed ch) (used-cells c s) (typed-cell ch (f .0))))
 
   -- ---- the removal
-  pub pop-sound : (m : ℕ) → isSound (removed c m .comp) ≡ true
+  pub removal-sound : (m : ℕ) → isSound (removed c m .comp) ≡ true
   unfolding removed left
-  pop-sound m =
+  removal-sound m =
       let l : length (take (length (used c) - 1) (used c)) ≤ limit
       = omega (arith, length-take (length (used c) - 1) (used c), used-length c s, count-fits c s) in
-      changed-keeps Sound (answer (removalOutcome c) m) c _ s
+      leaving-keeps Sound (answer (removalOutcome c) m) c _ s
       (λ k e. holding-sound c (left c) l (each-take isCell (length (used c) - 1) (used c) (used-cells c s)))

@@ -34,9 +34,9 @@ module _ (c : Composition) where
       go true s = text-short (used c) limit (used-short s)
       go false s = λ e. let z : _≡_ {A = ℕ} 0 1 = cc in omega arith
 
-  pop-fits : Fits limit (removalOutcome c)
+  removal-fits : Fits limit (removalOutcome c)
   unfolding removalOutcome left
-  pop-fits = go (isSound c) refl (eqb (length (used c)) 0)
+  removal-fits = go (isSound c) refl (eqb (length (used c)) 0)
     where
       go : (s : Bool) → isSound c ≡ s → (b : Bool)
           → Fits limit (pick s (pick b (refuses Empty) (writes (textOf (take (length (used c) - 1) (used c))))) (refuses Unsound))
@@ -48,5 +48,5 @@ module _ (c : Composition) where
   pub text-room : (n : ℕ) → limit ≤ n → answer (textOutcome c) n ≡ Refused Short → ⊥
   text-room n h = enough (textOutcome c) limit n text-fits h
 
-  pub pop-room : (n : ℕ) → limit ≤ n → answer (removalOutcome c) n ≡ Refused Short → ⊥
-  pop-room n h = enough (removalOutcome c) limit n pop-fits h
+  pub removal-room : (n : ℕ) → limit ≤ n → answer (removalOutcome c) n ≡ Refused Short → ⊥
+  removal-room n h = enough (removalOutcome c) limit n removal-fits h

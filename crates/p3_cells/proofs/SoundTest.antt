@@ -85,17 +85,17 @@ module _ (x : Cell) (v : Bool) (m : x .mark ≡ 0 → ⊥) (b : x .mark ≡ x .b
 abbrev light : Cell → ℕ
 light x = x .base + x .mark * 4294967296 + x .tone * 281474976710656
 
-pub weight-flagged : (x : Cell) → x .upper ≡ true → light x + 72057594037927936 ≡ packedCell x
+pub packed-flagged : (x : Cell) → x .upper ≡ true → light x + 72057594037927936 ≡ packedCell x
 unfolding packedCell
-weight-flagged x u = rw u refl
+packed-flagged x u = rw u refl
 
-pub weight-plain : (x : Cell) → x .upper ≡ false → light x ≡ packedCell x
+pub packed-plain : (x : Cell) → x .upper ≡ false → light x ≡ packedCell x
 unfolding packedCell
-weight-plain x u = rw u (omega arith)
+packed-plain x u = rw u (omega arith)
 
-pub weight-upper : (x : Cell) → x .upper ≡ true → eqb (light x + 72057594037927936) 0 ≡ isBlank x
+pub packed-upper : (x : Cell) → x .upper ≡ true → eqb (light x + 72057594037927936) 0 ≡ isBlank x
 unfolding isBlank
-weight-upper x u = ne-eqb (light x + 72057594037927936) 0 (λ e. omega arith)
+packed-upper x u = ne-eqb (light x + 72057594037927936) 0 (λ e. omega arith)
     ∙ rw u (go (eqb (x .base) 0) (eqb (x .mark) 0) (eqb (x .tone) 0))
   where
     go : (a b c : Bool) → false ≡ pick a (pick b (pick c false false) false) false
@@ -104,9 +104,9 @@ weight-upper x u = ne-eqb (light x + 72057594037927936) 0 (λ e. omega arith)
     go true false c = refl
     go false b c = refl
 
-pub weight-lower : (x : Cell) → x .upper ≡ false → eqb (light x) 0 ≡ isBlank x
+pub packed-lower : (x : Cell) → x .upper ≡ false → eqb (light x) 0 ≡ isBlank x
 unfolding isBlank
-weight-lower x u = rw u (go (eqb (x .base) 0) (eqb (x .mark) 0) (eqb (x .tone) 0) refl refl refl)
+packed-lower x u = rw u (go (eqb (x .base) 0) (eqb (x .mark) 0) (eqb (x .tone) 0) refl refl refl)
   where
     go : (a b c : Bool) → eqb (x .base) 0 ≡ a → eqb (x .mark) 0 ≡ b → eqb (x .tone) 0 ≡ c
         → eqb (light x) 0 ≡ pick a (pick b (pick c true false) false) false

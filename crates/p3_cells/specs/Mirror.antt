@@ -12,6 +12,7 @@ use mathlib.Core.List.{List, map}
 unfoldable pub packedCell : Cell → ℕ
 packedCell x = x .base + x .mark * 4294967296 + x .tone * 281474976710656 + pick (x .upper) 72057594037927936 0
 
+-- ---- the finders of a step are lent a row of bases, and answer what document 01's definitions say of cells with these bases
 -- a cell with this base, and no mark, tone or flag
 abbrev pub bare : ℕ → Cell
 bare b = record { base = b; mark = 0; tone = 0; upper = false }

@@ -1,4 +1,4 @@
--- The finders of a step are lent a row of bases, and answer what document 01's definitions say of cells with these bases.
+-- The bases of cells: where a tone or a mark goes depends on these alone.
 use Prim.Native.Nat.{ℕ}
 use mathlib.Core.List.{List, map}
 use Rattle.p3_cells.specs.declared.Cell.{Cell}

@@ -10,7 +10,7 @@ use Rattle.p3_cells.specs.declared.Composition.{Composition}
 use Rattle.p3_cells.specs.declared.Mode.{Mode}
 use Rattle.p3_cells.specs.declared.Mode.the-variants.{Vietnamese, English}
 use Rattle.p3_cells.proofs.Holding.{used-holding}
-use Rattle.p3_cells.proofs.Leaving.{changed-keeps}
+use Rattle.p3_cells.proofs.Leaving.{leaving-keeps}
 use Rattle.p3_step.proofs.Frame.{Framed, key-frame}
 use Rattle.p3_key.specs.Process.{inMode, nextCells, keyOutcome, keyNext, keyed}
 
@@ -31,12 +31,12 @@ holding-frame c xs f = record { method = refl; mode = refl; cells = inr (rw (use
 pub english-stays : (c : Composition) (key n : ℕ) → c .mode ≡ English → keyed c key n .comp ≡ c
 unfolding keyed keyNext
 english-stays c key n e =
-    changed-keeps (λ (d : Composition). d ≡ c) (answer (keyOutcome c key) n) c _ refl (λ k q. rw e refl)
+    leaving-keeps (λ (d : Composition). d ≡ c) (answer (keyOutcome c key) n) c _ refl (λ k q. rw e refl)
 
 pub keyed-frame : (c : Composition) (key n : ℕ) → KeyFrame c (keyed c key n .comp)
 unfolding keyed keyNext nextCells
 keyed-frame c key n =
-    changed-keeps (KeyFrame c) (answer (keyOutcome c key) n) c _ (same-frame c) (λ k q. go (c .mode))
+    leaving-keeps (KeyFrame c) (answer (keyOutcome c key) n) c _ (same-frame c) (λ k q. go (c .mode))
   where
     go : (o : Mode) → KeyFrame c (inMode o (holding c (nextCells c key)) c)
     go Vietnamese = holding-frame c (nextCells c key) (key-frame (c .method) (used c) key)

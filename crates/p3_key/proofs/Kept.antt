@@ -16,7 +16,7 @@ use Rattle.p3_cells.specs.declared.Composition.{Composition}
 use Rattle.p3_cells.specs.declared.Mode.{Mode}
 use Rattle.p3_cells.specs.declared.Mode.the-variants.{Vietnamese, English}
 use Rattle.p3_cells.proofs.Holding.{used-cells, holding-sound}
-use Rattle.p3_cells.proofs.Leaving.{changed-keeps}
+use Rattle.p3_cells.proofs.Leaving.{leaving-keeps}
 use Rattle.p3_step.proofs.Sound.{key-cells-kept}
 use Rattle.p3_key.specs.Process.{inMode, nextCells, writtenFor, isFull, keyOutcome, keyNext, keyed}
 
@@ -53,7 +53,7 @@ module _ (c : Composition) (key n : ℕ) (s : isSound c ≡ true) where
   pub key-sound : isSound (keyed c key n .comp) ≡ true
   unfolding keyed keyNext
   key-sound =
-      changed-keeps (λ (d : Composition). isSound d ≡ true) (answer (keyOutcome c key) n) c _ s
+      leaving-keeps (λ (d : Composition). isSound d ≡ true) (answer (keyOutcome c key) n) c _ s
       (λ k e. go (c .mode) refl (taken c key n k e))
     where
       -- either the composition stays, or it holds the cells after the key

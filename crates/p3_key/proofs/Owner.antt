@@ -23,7 +23,7 @@ use Rattle.p3_key.specs.Mirror.{soundBy, letterFor, strokeOf}
 use Rattle.p3_key.specs.declared.Stroke.{Stroke}
 use Rattle.p3_key.proofs.Faults.{faultsBy, faults-sound}
 use Rattle.p3_key.proofs.Letters.{lettersTo, letters-more}
-use Rattle.p3_key.proofs.Right.{edited, Right, edit-right}
+use Rattle.p3_key.proofs.Right.{stroked, Right, stroke-right}
 
 -- a sound composition's row is that of its cells in use
 used-row : (c : Composition) (b : List ℕ) (u i : ℕ) → isSound c ≡ true → u ≡ min (c .count) limit → Filled (c .cells) b i → i ≤ u → u ≤ i
@@ -40,14 +40,14 @@ unsound : (m n : List Cell) (c : Composition) (key r : ℕ)
 unfolding strokeOf
 unsound m n c key r = refl
 
--- the edit: s is the answer of the soundness test, and the row has u bases
-edit-known : (c : Composition) (key : ℕ) (o b : List ℕ) (trusted s : Bool) (t i j u : ℕ) (e : Stroke)
+-- the stroke: s is the answer of the soundness test, and the row has u bases
+stroke-known : (c : Composition) (key : ℕ) (o b : List ℕ) (trusted s : Bool) (t i j u : ℕ) (e : Stroke)
     → length (c .cells) ≡ limit → fitsFrom c 0 ≡ faultsBy c t i → limit ≤ i
     → (trusted ≡ true → isSound c ≡ true) → s ≡ soundBy trusted (c .count) t
     → u ≡ min (c .count) limit → Filled (c .cells) b j → j ≤ u → u ≤ j
     → e ≡ strokeOf s (c .method) (c .mode) (rowCells (take (u - 0) (drop 0 b))) key (c .count) (length o)
     → e ≡ strokeOf (isSound c) (c .method) (c .mode) (rowCells (bases (used c))) key (c .count) (length o)
-edit-known c key o b trusted s t i j u e n f l p q h g k m r =
+stroke-known c key o b trusted s t i j u e n f l p q h g k m r =
     r ∙ ap (λ (v : Bool). strokeOf v (c .method) (c .mode) (rowCells (take (u - 0) (drop 0 b))) key (c .count) (length o))
     (faults-sound c t i trusted s n f l p q)
     ∙ go (isSound c) refl
@@ -82,11 +82,11 @@ pub owner-right : (c : Composition) (key : ℕ) (o out b row : List ℕ) (truste
       answer = e .answer;
     } ≡ keyed c key (length o))
     × (out ≡ output (keyOutcome c key) o)
-unfolding keyed leaving edited
+unfolding keyed leaving stroked
 owner-right c key o out b row trusted s t i j u k r e p q n f l z y h g a d v′ w x m m′ y′ r′ r″ =
     let d′ : r ≡ e .letters = omega arith in
-    let known = edit-known c key o b trusted s t i j u e n f l z y h g a d (rw v′ at w) in
-    let right : Right c key o e = rw known (edit-right c key o) in
+    let known = stroke-known c key o b trusted s t i j u e n f l z y h g a d (rw v′ at w) in
+    let right : Right c key o e = rw known (stroke-right c key o) in
     (rw (m′, m, x) (λ δ. record { comp = right .comp δ; answer = right .told δ }), y′ ∙ rw (m′, m, x, d′) (right .out))
 
 -- ---- its two callers: one tests, and the other knows that the composition is sound

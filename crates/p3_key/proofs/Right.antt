@@ -1,4 +1,4 @@
--- What the owner does is document 01's key call: the answer, the composition and the output that an edit leaves are those
+-- What the owner does is document 01's key call: the answer, the composition and the output that an stroke leaves are those
 -- of the definitions.
 use Prim.Native.Nat.{ℕ, zero, suc, _-_, _<_, _≤_}
 use mathlib.Core.Path.{_≡_, refl, sym, ap, _∙_}
@@ -38,12 +38,12 @@ use Rattle.p3_key.specs.Mirror.{letterFor, noStroke, stepStroke, passStr
 use Rattle.p3_key.specs.declared.Stroke.{Stroke}
 use Rattle.p3_key.proofs.Letters.{lettersTo}
 
--- ---- what an edit leaves
+-- ---- what an stroke leaves
 abbrev pub putEdit : Stroke → List Cell → ℕ → Cell
 putEdit e cells key = putCell (e .change) (e .mark) (getD cells (e .at) blank) (getD cells (e .also) blank) key (asciiLower key)
 
-unfoldable pub edited : Composition → Stroke → ℕ → Composition
-edited c e key =
+unfoldable pub stroked : Composition → Stroke → ℕ → Composition
+stroked c e key =
     record {
       cells = set (set (c .cells) (e .at) (putEdit e (c .cells) key)) (e .also)
           (alsoCell (e .change) (putEdit e (c .cells) key));
@@ -53,9 +53,9 @@ edited c e key =
     }
 
 pub record Right (c : Composition) (key : ℕ) (o : List ℕ) (e : Stroke) : Type 0 where
-  pub comp : edited c e key ≡ keyed c key (length o) .comp
+  pub comp : stroked c e key ≡ keyed c key (length o) .comp
   pub told : e .answer ≡ answer (keyOutcome c key) (length o)
-  pub out : lettersTo (c .mode) key (edited c e key .cells) (e .letters) o ≡ output (keyOutcome c key) o
+  pub out : lettersTo (c .mode) key (stroked c e key .cells) (e .letters) o ≡ output (keyOutcome c key) o
 
 -- ---- what there is to write, way by way
 module _ (c : Composition) (key : ℕ) where
@@ -83,7 +83,7 @@ same-cells c = rw (set-getD (c .cells) 0 blank) (set-getD (c .cells) 0 blank)
 
 kept-right : (c : Composition) (key : ℕ) (o : List ℕ) (r : Refusal) → Refused r ≡ answer (keyOutcome c key) (length o)
     → Right c key o (noStroke r (c .count))
-unfolding edited putCell alsoCell lettersTo keyed leaving output
+unfolding stroked putCell alsoCell lettersTo keyed leaving output
 kept-right c key o r e =
     record {
       comp = rw (same-cells c, ← e) refl;
@@ -99,7 +99,7 @@ short-right : (c : Composition) (key : ℕ) (o : List ℕ) → keyOutcome c key 
     → Right c key o (noStroke Short (c .count))
 short-right c key o q l = kept-right c key o Short (short-answer _ _ q (length o) l)
 
--- ---- the composition and the output, where the letters are writtenFor
+-- ---- the composition and the output, where the letters are written
 module _ (c : Composition) (key : ℕ) (o : List ℕ) (q : keyOutcome c key ≡ writes (writtenFor c key))
     (l : length (writtenFor c key) ≤ length o) where
   told-written : (k : ℕ) → k ≡ length (writtenFor c key) → Done k ≡ answer (keyOutcome c key) (length o)
@@ -122,7 +122,7 @@ pass-right : (c : Composition) (key : ℕ) (o : List ℕ) → 0 < length (c .cel
     → keyOutcome c key ≡ writes (writtenFor c key) → length (writtenFor c key) ≤ length o
     → length (writtenFor c key) ≡ 1
     → Right c key o (record { change = Nothing; at = 0; also = 0; mark = 0; count = c .count; letters = 1; answer = Done 1 })
-unfolding edited putCell alsoCell lettersTo keyNext writtenFor
+unfolding stroked putCell alsoCell lettersTo keyNext writtenFor
 pass-right c key o h m q l e =
     record {
       comp = rw (comp-written c key o q l, same-cells c, m) refl;
@@ -165,8 +165,8 @@ module _ (c : Composition) (s : isSound c ≡ true) where
         rw parted (h .cells (blanks (limit - length (used c))) (omega arith)
         ∙ rw (blanks-less (limit - length (used c)) (t .count - length (used c)), d) refl)
 
-    held : edited c (wrote t) key ≡ holding c xs
-    unfolding edited stored
+    held : stroked c (wrote t) key ≡ holding c xs
+    unfolding stroked stored
     held = rw (h .count) (made c xs (stored t (c .cells) key (asciiLower key)) (length xs) step-cells refl)
 
 -- what the definitions say where the answer is a number of letters
@@ -218,7 +218,7 @@ step-right c s key t h l o m q r =
           (sym (out-written c key o q r ∙ rw (written-length c key m, written-vietnamese c key m) refl));
     }
 
--- ---- the edit of a sound composition and a letter of the alphabet
+-- ---- the stroke of a sound composition and a letter of the alphabet
 module _ (c : Composition) (key : ℕ) (o : List ℕ) (s : isSound c ≡ true) (a : inAlphabet key ≡ true) where
   module _ (m : c .mode ≡ English) where
     full-english : isFull c key ≡ false
@@ -259,11 +259,11 @@ module _ (c : Composition) (key : ℕ) (o : List ℕ) (s : isSound c ≡ true) (
             step-right c s key t h (rw (h .count) at (ltb-false limit (t .count) p)) o m
             (outcome-writes c key s a (full-vietnamese c key m ∙ rw (h .count) at p)) l
 
--- what the edit leaves is right
-pub edit-right : (c : Composition) (key : ℕ) (o : List ℕ)
+-- what the stroke leaves is right
+pub stroke-right : (c : Composition) (key : ℕ) (o : List ℕ)
     → Right c key o (strokeOf (isSound c) (c .method) (c .mode) (rowCells (bases (used c))) key (c .count) (length o))
 unfolding strokeOf nextCells
-edit-right c key o = go (isSound c) (inAlphabet key) (c .mode) refl refl refl
+stroke-right c key o = go (isSound c) (inAlphabet key) (c .mode) refl refl refl
   where
     makes : isSound c ≡ true
         → Makes (stepOf (c .method) (rowCells (bases (used c))) (asciiLower key)) (used c) (keyCells (c .method) (used c) key) key

@@ -1,4 +1,4 @@
--- An edit as the code comes to it; and that its places lie in the array, and its letters in it and in the output.
+-- An stroke as the code comes to it; and that its places lie in the array, and its letters in it and in the output.
 use Prim.Native.Nat.{ℕ, _<_, _≤_}
 use mathlib.Core.Path.{_≡_, refl}
 use mathlib.Core.Bool.{Bool, true, false, not}
@@ -25,7 +25,7 @@ use Rattle.p3_key.specs.Process.{inMode}
 use Rattle.p3_key.specs.Mirror.{noStroke, stepStroke, passStroke, strokeOf}
 use Rattle.p3_key.specs.declared.Stroke.{Stroke}
 
--- ---- a step, noStroke or not
+-- ---- a step, refused or not
 module _ (s : Step) (n room : ℕ) where
   pub step-full : (e : Stroke) → limit < s .count → e ≡ noStroke Full n → e ≡ stepStroke s n room
   unfolding stepStroke
@@ -49,25 +49,25 @@ module _ (s : Step) (n room : ℕ) where
   unfolding stepStroke
   step-done l h = rw (le-ltb limit (s .count) l, le-ltb room (s .count) h) refl
 
--- ---- the edit of a key
+-- ---- the stroke of a key
 module _ (sound : Bool) (m : InputMethod) (o : Mode) (cs : List Cell) (key n room : ℕ) (e : Stroke) where
-  pub edit-unsound : not sound ≡ true → e ≡ noStroke Unsound n → e ≡ strokeOf sound m o cs key n room
+  pub stroke-unsound : not sound ≡ true → e ≡ noStroke Unsound n → e ≡ strokeOf sound m o cs key n room
   unfolding strokeOf
-  edit-unsound s q = rw (not-true sound s) q
+  stroke-unsound s q = rw (not-true sound s) q
 
   module _ (v : Bool) (s : not sound ≡ false) (a : v ≡ inAlphabet key) where
-    pub edit-foreign : not v ≡ true → e ≡ noStroke Foreign n → e ≡ strokeOf sound m o cs key n room
+    pub stroke-foreign : not v ≡ true → e ≡ noStroke Foreign n → e ≡ strokeOf sound m o cs key n room
     unfolding strokeOf
-    edit-foreign t q = rw (not-false sound s, ← a, not-true v t) q
+    stroke-foreign t q = rw (not-false sound s, ← a, not-true v t) q
 
-    pub edit-step : (k : ℕ) (t : Step) → not v ≡ false → o ≡ Vietnamese → k ≡ asciiLower key → t ≡ stepOf m cs k → e ≡ stepStroke t n room
+    pub stroke-step : (k : ℕ) (t : Step) → not v ≡ false → o ≡ Vietnamese → k ≡ asciiLower key → t ≡ stepOf m cs k → e ≡ stepStroke t n room
         → e ≡ strokeOf sound m o cs key n room
     unfolding strokeOf
-    edit-step k t u d p r q = rw (not-false sound s, ← a, not-false v u, d, ← p, ← r) q
+    stroke-step k t u d p r q = rw (not-false sound s, ← a, not-false v u, d, ← p, ← r) q
 
-    pub edit-pass : not v ≡ false → o ≡ English → e ≡ passStroke n room → e ≡ strokeOf sound m o cs key n room
+    pub stroke-pass : not v ≡ false → o ≡ English → e ≡ passStroke n room → e ≡ strokeOf sound m o cs key n room
     unfolding strokeOf
-    edit-pass u d q = rw (not-false sound s, ← a, not-false v u, d) q
+    stroke-pass u d q = rw (not-false sound s, ← a, not-false v u, d) q
 
 -- ---- its bounds
 pub record Bounds (room : ℕ) (e : Stroke) : Type 0 where

@@ -1,5 +1,5 @@
 -- How the code holds things: no sentence of document 01 stands here, and no promise to a host leads here.
--- How the code holds what a key does: the step, or nothing where it is noStroke, with how many letters are written and the
+-- How the code holds what a key does: the step, or nothing where it is refused, with how many letters are written and the
 -- answer. That this is document 01's answer is proved (proofs/Right).
 use Prim.Native.Nat.{ℕ}
 use mathlib.Core.Bool.{Bool, true, false}

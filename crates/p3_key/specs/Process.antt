@@ -26,7 +26,7 @@ inMode English a b = b
 unfoldable pub nextCells : Composition → ℕ → List Cell
 nextCells c key = keyCells (c .method) (used c) key
 
--- what is writtenFor: the text, and "in English mode .. that one letter"
+-- what is written: the text, and "in English mode .. that one letter"
 unfoldable pub writtenFor : Composition → ℕ → List ℕ
 writtenFor c key = inMode (c .mode) (textOf (nextCells c key)) (key ∷ [])
 

@@ -1,4 +1,4 @@
--- The raw string, as the code goes through it: rawLowered letter by letter, from the end for the last pattern, and on from
+-- The raw string, as the code goes through it: lowered letter by letter, from the end for the last pattern, and on from
 -- there for a vowel.
 use Prim.Native.Nat.{ℕ, zero, suc, _+_, _-_, _<_, _≤_}
 use mathlib.Core.Path.{_≡_, refl, sym, ap, _∙_}

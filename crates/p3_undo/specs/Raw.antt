@@ -1,4 +1,4 @@
--- Document 01, undo: what it asks of the raw string, here "the rawLowered raw string".
+-- Document 01, undo: what it asks of the raw string, here "the lowered raw string".
 use Prim.Native.Nat.{ℕ, zero, suc, _-_}
 use mathlib.Core.Bool.{Bool, true, false, not}
 use mathlib.Core.List.{List, [], _∷_, map}
@@ -30,7 +30,7 @@ unfoldable pub anyPlain : List ℕ → Bool
 anyPlain [] = false
 anyPlain (x ∷ xs) = pick (among x (word "aeiouy")) true (anyPlain xs)
 
--- "whose last occurrence in the rawLowered raw string has none of a e i o u y after it"
+-- "whose last occurrence in the lowered raw string has none of a e i o u y after it"
 unfoldable pub active : List ℕ → ℕ → ℕ → Bool
 active raw a t =
     pick (eqb (lastEnd raw a t (length raw)) 0) false (not (anyPlain (drop (lastEnd raw a t (length raw)) raw)))

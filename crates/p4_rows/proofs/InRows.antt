@@ -1,4 +1,4 @@
--- A inRows part is one of all the parts of the rows; row numbers are below the number of rows.
+-- A listed part is one of all the parts of the rows; row numbers are below the number of rows.
 use Prim.Native.Nat.{ℕ, suc}
 use mathlib.Core.Path.{_≡_, refl}
 use mathlib.Core.Bool.{Bool, true, false}

@@ -32,7 +32,7 @@ abbrev pub isEmpty : {A : Type 0} → List A → Bool
 isEmpty [] = true
 isEmpty (x ∷ xs) = false
 
--- a part is inRows if it stands in some row
+-- a part is listed if it stands in some row
 unfoldable pub inRows : List (List Word) → Word → Bool
 inRows rows w = pick (isEmpty (rowsOf rows w)) false true
 

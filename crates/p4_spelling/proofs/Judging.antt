@@ -44,11 +44,11 @@ module _ (w : Word) (rows : List ℕ) where
       go [] n = absurd (n refl)
       go (x ∷ u) n = refl
 
--- ---- a part that is not inRows goes with none
-unlisted-onset : (w : Word) (rows : List ℕ) → inRowsIfAny onsetRows w ≡ false → onsetFits w rows ≡ false
+-- ---- a part that is not listed goes with none
+onset-in-no-row : (w : Word) (rows : List ℕ) → inRowsIfAny onsetRows w ≡ false → onsetFits w rows ≡ false
 unfolding inRowsIfAny inRows onsetFits goTogether
-unlisted-onset [] rows e = e
-unlisted-onset (x ∷ w) rows e = go (rowsOf onsetRows (x ∷ w)) e
+onset-in-no-row [] rows e = e
+onset-in-no-row (x ∷ w) rows e = go (rowsOf onsetRows (x ∷ w)) e
   where
     go : (l : List ℕ) → pick (isEmpty l) false true ≡ false → goTogether onsetToVowels l rows ≡ false
     go [] q = refl
@@ -59,10 +59,10 @@ unfolding goTogether allowsAny
 none-with m [] = refl
 none-with m (i ∷ is) = none-with m is
 
-unlisted-coda : (w : Word) (rows : List ℕ) → inRowsIfAny codaRows w ≡ false → codaFits rows w ≡ false
+coda-in-no-row : (w : Word) (rows : List ℕ) → inRowsIfAny codaRows w ≡ false → codaFits rows w ≡ false
 unfolding inRowsIfAny inRows codaFits
-unlisted-coda [] rows e = e
-unlisted-coda (x ∷ w) rows e = go (rowsOf codaRows (x ∷ w)) e
+coda-in-no-row [] rows e = e
+coda-in-no-row (x ∷ w) rows e = go (rowsOf codaRows (x ∷ w)) e
   where
     go : (l : List ℕ) → pick (isEmpty l) false true ≡ false → goTogether vowelsToCoda rows l ≡ false
     go [] q = none-with vowelsToCoda rows
@@ -83,7 +83,7 @@ unfolding partsFit
 parts-shorter o v c =
     shorter (inRowsIfAny onsetRows o) (inRows vowelRows v) (inRowsIfAny codaRows c) (onsetFits o (rowsOf vowelRows v))
     (codaFits (rowsOf vowelRows v) c)
-    (unlisted-onset o (rowsOf vowelRows v)) (unlisted-coda c (rowsOf vowelRows v))
+    (onset-in-no-row o (rowsOf vowelRows v)) (coda-in-no-row c (rowsOf vowelRows v))
 
 -- ---- the whole
 by-count : (l : List ℕ) (o : Rows) → o ≡ spread l → not (eqb (o .count) 0) ≡ pick (isEmpty l) false true
@@ -152,9 +152,9 @@ module _ (w : Word) (p : CutPlaces) (e : p ≡ placesOf w) where
     unfolding fits
     whole = rw (some-vowels h) (parts-shorter (onsetOf w) (vowelsOf w) (codaOf w))
 
-    pub vowels-unlisted : v .count ≡ 0 → false ≡ fits w
+    pub vowels-in-no-row : v .count ≡ 0 → false ≡ fits w
     unfolding inRows
-    vowels-unlisted c = sym (whole ∙ rw (rows-none (rowsOf vowelRows (vowelsOf w)) v rows-are c))
+    vowels-in-no-row c = sym (whole ∙ rw (rows-none (rowsOf vowelRows (vowelsOf w)) v rows-are c))
 
     module _ (c : v .count ≡ 0 → ⊥) (o : Rows) (d : o ≡ spread (rowsOf onsetRows (take (p .onset - 0) w))) (f : Bool)
         (k : f ≡ pick (eqb (p .onset) 0) true (goTogether onsetToVowels (rowNumbers o) (rowNumbers v))) where

@@ -15,7 +15,7 @@ unfoldable pub hasForeign : Word → Bool
 hasForeign [] = false
 hasForeign (x ∷ xs) = pick (among x (word "fjwz")) true (hasForeign xs)
 
--- "each part present must be inRows"
+-- "each part present must be listed"
 unfoldable pub inRowsIfAny : List (List Word) → Word → Bool
 inRowsIfAny rows part = pick (isEmpty part) true (inRows rows part)
 
@@ -28,7 +28,7 @@ onsetFits onset rows = pick (isEmpty onset) true (goTogether onsetToVowels (rows
 unfoldable pub codaFits : List ℕ → Word → Bool
 codaFits rows coda = pick (isEmpty coda) true (goTogether vowelsToCoda rows (rowsOf codaRows coda))
 
--- "Otherwise each part present must be inRows, and two matrices of row numbers say which rows go together."
+-- "Otherwise each part present must be listed, and two matrices of row numbers say which rows go together."
 unfoldable pub partsFit : Word → Word → Word → Bool
 partsFit onset vowels coda =
     pick (inRowsIfAny onsetRows onset)
@@ -39,7 +39,7 @@ partsFit onset vowels coda =
     false)
     false
 
--- "No vowels: yes exactly if the onset is inRows. Otherwise .."
+-- "No vowels: yes exactly if the onset is listed. Otherwise .."
 unfoldable pub fits : Word → Bool
 fits w =
     pick (isEmpty (vowelsOf w)) (inRows onsetRows (onsetOf w)) (partsFit (onsetOf w) (vowelsOf w) (codaOf w))

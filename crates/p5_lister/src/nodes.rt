@@ -1,4 +1,4 @@
-// The table of nodes that specs/Nodes.antt of p5_listing defines; written by tools/nodes.py.
+// The table of nodes that specs/Mirror.antt of p5_listing defines; written by tools/nodes.py.
 
 // how many nodes there are, node 0 among them; the last is the root
 const NODES: usize = 211;

@@ -178,7 +178,7 @@ none-longer : (u : Word) → Listed u → length u ≤ longestLength
 none-longer u l =
     ⊎-elim (λ h. absurd (let t : T (verdict u) = l .accepted in rw (← too-long u h) at t)) (λ h. h) (below-or-not longestLength (length u))
 
--- "5,963 toneless words pass: 25 bare onsets, 217 without onset, 5,721 with onset and vowels"; "The longest has 8 nodeLetters."
+-- "5,963 toneless words pass: 25 bare onsets, 217 without onset, 5,721 with onset and vowels"; "The longest has 8 letters."
 pub counts : Counts
 unfolding how-many
 counts = record {

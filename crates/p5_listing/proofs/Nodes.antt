@@ -92,7 +92,7 @@ grown : (k e : ℕ) → grow (suc k) (suc e) ≡ node (letterAt (suc e)) (endsAt
 unfolding grow
 grown k e = refl
 
--- the nodeLetters of the words are their own lower-case toneless forms
+-- the letters of the words are their own lower-case toneless forms
 grow-plain : (k e : ℕ) → e < nodeCount → Letters (λ (x : ℕ). eqb (plainLetter x) x) (grow k e)
 unfolding grow
 grow-plain zero e h = tt

@@ -1,4 +1,4 @@
--- Demand 3 of the table: it inTrie the listed words and no others, so `nth listing` numbers them from 0 to 5,962, and the word
+-- Demand 3 of the table: it holds the listed words and no others, so `nth listing` numbers them from 0 to 5,962, and the word
 -- at number `upTo listing w` follows w. A word is accepted exactly if its lower-case toneless form has a number.
 use Prim.Native.Nat.{ℕ, _<_}
 use mathlib.Core.Path.{_≡_, sym, ap, _∙_, subst}

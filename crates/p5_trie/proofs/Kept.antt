@@ -30,7 +30,7 @@ unfolding keptIn
 kept-sorted f none o = tt
 kept-sorted f (node c a d s) o = (kept-above f c s (o .0), (kept-sorted (λ w. f (c ∷ w)) d (o .1 .0), kept-sorted f s (o .1 .1)))
 
--- what is held of the keptIn words, and of which
+-- what is held of the kept words, and of which
 ends-kept : (f : List ℕ → Bool) (c : ℕ) (a : Bool) (w : List ℕ) → T (endsHere w (stays f c a)) → T (endsHere w a) × T (f (c ∷ w))
 ends-kept f c true [] t = (tt, t)
 ends-kept f c false [] t = absurd t

@@ -1,4 +1,4 @@
--- A trie that inTrie the words of a property, and no others, with letters that ascend, numbers them; the word at number
+-- A trie that holds the words of a property, and no others, with letters that ascend, numbers them; the word at number
 -- `upTo t w` follows w.
 use Prim.Native.Nat.{ℕ, _+_, _-_, _≤_, _<_}
 use mathlib.Core.Path.{_≡_, refl, ap, subst}
@@ -60,7 +60,7 @@ nth-held (node c a d s) o n h =
     (below-or-not n (one a + trieSize d)))
     (below-or-not n (one a))
 
--- ---- the trie inTrie the words of the property, and no others
+-- ---- the trie holds the words of the property, and no others
 pub record Lists (P : List ℕ → Type 0) (t : Trie) : Type 0 where
   pub sorted : Sorted t
   pub only : (u : List ℕ) → T (inTrie t u) → P u

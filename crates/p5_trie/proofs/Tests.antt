@@ -1,4 +1,4 @@
--- Tests of a whole trie that antt computes: what it inTrie, that its letters ascend, and a test at each word. Lazy choices
+-- Tests of a whole trie that antt computes: what it holds, that its letters ascend, and a test at each word. Lazy choices
 -- (`elim`), since a test over thousands of words stands on them.
 use Prim.Native.Nat.{ℕ, suc, max}
 use mathlib.Core.Bool.{Bool, true, false, cond, _&&_, _||_}

@@ -1,5 +1,5 @@
 -- What the words of a trie are whose letters ascend: the first `upTo t w` of them are at most w and the others after it
--- (`cuts`), number n is at most itself with n others (`upTo-nth`), and each word that it inTrie has a number.
+-- (`cuts`), number n is at most itself with n others (`upTo-nth`), and each word that it holds has a number.
 use Prim.Native.Nat.{ℕ, suc, _+_, _-_, _≤_, _<_}
 use mathlib.Core.Path.{_≡_, refl, sym, ap, _∙_, subst}
 use mathlib.Core.Logic.{inl, inr, ⊎-elim}
@@ -220,7 +220,7 @@ upTo-nth (node c a d s) o n h =
     (below-or-not n (one a + trieSize d)))
     (below-or-not n (one a))
 
--- a word that a trie inTrie has a number in it
+-- a word that a trie holds has a number in it
 pub record Numbered (t : Trie) (w : List ℕ) : Type 0 where
   pub number : ℕ
   pub small : number < trieSize t

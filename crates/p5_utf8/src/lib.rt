@@ -1,5 +1,5 @@
 // UTF-8 by RFC 3629, for all of Unicode: the character at a place of bytes, and the bytes of a code point. The reader and
-// the writer over document 01's alphabet are p5_utf8_text and p5_utf8_text.
+// the writer over document 01's alphabet are p5_utf8_text.
 ghost use mathlib.Core.Path.{_≡_};
 ghost use mathlib.Core.Bool.{true};
 ghost use mathlib.Core.List.{[], _∷_, _++_};

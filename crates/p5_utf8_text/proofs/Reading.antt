@@ -71,12 +71,12 @@ read-exactly s xs =
     go true p q = let z : _≡_ {A = ℕ} 0 1 = cc in absurd (omega arith)
     go false p q = let k = letters-exactly s xs .0 q in (ltb-false byteLimit (length s) p, k .0, k .1)
 
--- bytes that are read as no more letters than may be written-exactly are what these letters are written-exactly as
+-- bytes that are read as no more letters than may be written are what these letters are written as
 pub written-again : (s xs : List ℕ) → reading s ≡ writes xs → length xs ≤ letterLimit → writing xs ≡ writes s
 unfolding writing
 written-again s xs e h = let k = read-exactly s xs .0 e in rw (le-ltb letterLimit (length xs) h, k .2, k .1) refl
 
--- bytes that were written-exactly are read back as the letters: so many bytes may be read
+-- bytes that were written are read back as the letters: so many bytes may be read
 pub read-back : (xs bs : List ℕ) → writing xs ≡ writes bs → reading bs ≡ writes xs
 unfolding reading
 read-back xs bs e =

@@ -21,7 +21,7 @@ use Rattle.p0_refusals.proofs.Room.{Fits, enough}
 use Rattle.p5_utf8_text.specs.Write.{writeRoom, writing}
 use Rattle.p5_utf8_text.proofs.Alphabet.{few-bytes}
 
--- ---- bytes are written-exactly exactly of letters within the limit
+-- ---- bytes are written exactly of letters within the limit
 pub written-exactly : (xs bs : List ℕ) → writing xs ≡ writes bs → (length xs ≤ letterLimit) × (allLetters xs ≡ true) × (bs ≡ encodeAll xs)
 unfolding writing
 written-exactly xs bs e = go (ltb letterLimit (length xs)) (allLetters xs) refl e
@@ -65,7 +65,7 @@ module _ (xs : List ℕ) (m : ℕ) (h : length xs ≤ letterLimit) where
   unfolding writing answer
   done a l = rw (le-ltb letterLimit (length xs) h, a, le-ltb m (length (encodeAll xs)) l) refl
 
--- ---- with room for the bytes of all letters that are written-exactly 3 is never the answer
+-- ---- with room for the bytes of all letters that are written 3 is never the answer
 writing-fits : (xs : List ℕ) → Fits writeRoom (writing xs)
 unfolding writing
 writing-fits xs = go (ltb letterLimit (length xs)) (allLetters xs) refl refl

@@ -13,7 +13,7 @@ use Rattle.p3_cells.specs.declared.Composition.{Composition}
 use Rattle.p3_cells.specs.declared.Mode.{Mode}
 use Rattle.p3_cells.specs.declared.Mode.the-variants.{Vietnamese, English}
 use Rattle.p3_cells.proofs.Holding.{used-length, count-held}
-use Rattle.p3_cells.proofs.Leaving.{done-leaves, changed-keeps}
+use Rattle.p3_cells.proofs.Leaving.{done-leaves, leaving-keeps}
 use Rattle.p3_step.specs.Key.{appended}
 use Rattle.p3_step.proofs.Frame.{Framed, appends, changes, changesTwo, key-frame}
 use Rattle.p3_key.specs.Process.{inMode, nextCells, keyOutcome, keyNext, keyed}
@@ -55,7 +55,7 @@ module _ (c : Composition) (s : isSound c ≡ true) (key : ℕ) where
   pub key-back : (n m j : ℕ) → keyed c key n .comp .count ≡ suc (c .count) → removed (keyed c key n .comp) m .answer ≡ Done j
       → removed (keyed c key n .comp) m .comp ≡ c
   unfolding keyed keyNext
-  key-back n m j = changed-keeps (Back m j) (answer (keyOutcome c key) n) c (keyNext c key) (same m j) (λ k e. go (c .mode))
+  key-back n m j = leaving-keeps (Back m j) (answer (keyOutcome c key) n) c (keyNext c key) (same m j) (λ k e. go (c .mode))
     where
       go : (o : Mode) → Back m j (inMode o (holding c (nextCells c key)) c)
       go English = same m j

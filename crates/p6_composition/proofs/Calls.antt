@@ -28,7 +28,7 @@ use Rattle.p3_undo.specs.declared.Undone.{Undone}
 use Rattle.p6_composition.specs.UndoAnswer.{undoLeaving}
 use Rattle.p6_composition.specs.Calls.{answerOn, bytesAfter, bytesOn, outOn, keyOn, resetOn, literalOn, removalOn, undoOn, orUnsound}
 use Rattle.p6_composition.specs.Calls.{methodOn, modeOn, textOn, newOn, newBytes}
-use Rattle.p6_composition.proofs.Kept.{key-step, reset-step, literal-step, pop-step, undo-step, method-step, mode-step}
+use Rattle.p6_composition.proofs.Kept.{key-step, reset-step, literal-step, removal-step, undo-step, method-step, mode-step}
 
 -- the test has let the bytes through
 pub ok-sound : (b : List ℕ) (v : Bool) → v ≡ bytesSound b → not v ≡ false → bytesSound b ≡ true
@@ -70,8 +70,8 @@ module _ (b out new : List ℕ) (c : Composition) (v : Bool) (e : v ≡ bytesSou
   pub key-out : (l : ℕ) → new ≡ output (keyOutcome c l) out → new ≡ outOn b (keyOutcome (compositionOf b) l) out
   key-out l h = sound-out b out _ v e new t (rw (← f) h)
 
-  pub pop-out : new ≡ output (removalOutcome c) out → new ≡ outOn b (removalOutcome (compositionOf b)) out
-  pop-out h = sound-out b out _ v e new t (rw (← f) h)
+  pub removal-out : new ≡ output (removalOutcome c) out → new ≡ outOn b (removalOutcome (compositionOf b)) out
+  removal-out h = sound-out b out _ v e new t (rw (← f) h)
 
   pub text-out : new ≡ output (textOutcome c) out → new ≡ outOn b (textOutcome (compositionOf b)) out
   text-out h = sound-out b out _ v e new t (rw (← f) h)
@@ -113,12 +113,12 @@ module _ (b : List ℕ) (c : Composition) (l : ℕ) (p : After) (f : c ≡ compo
 
 -- ---- the removal
 module _ (b : List ℕ) (c : Composition) (out : List ℕ) (p : After) (f : c ≡ compositionOf b) (g : p ≡ removed c (length out)) where
-  pub pop-is : p ≡ removalOn b out
+  pub removal-is : p ≡ removalOn b out
   unfolding removalOn
-  pop-is = rw (g, f) refl
+  removal-is = rw (g, f) refl
 
-  pub pop-ready : (v : Bool) → v ≡ bytesSound b → not v ≡ false → p .comp ≡ holding (p .comp) (used (p .comp))
-  pop-ready v e t = ready p (removalOn b out) pop-is (pop-step b (ok-sound b v e t) out)
+  pub removal-ready : (v : Bool) → v ≡ bytesSound b → not v ≡ false → p .comp ≡ holding (p .comp) (used (p .comp))
+  removal-ready v e t = ready p (removalOn b out) removal-is (removal-step b (ok-sound b v e t) out)
 
 -- ---- undo
 module _ (b : List ℕ) (c : Composition) (l : ℕ) (raw : List ℕ) (k : Undone) (p : After) (f : c ≡ compositionOf b)

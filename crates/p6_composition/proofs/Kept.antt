@@ -12,7 +12,7 @@ use Rattle.p2_input_method.specs.declared.InputMethod.{InputMethod}
 use Rattle.p3_cells.specs.Cells.{isSound}
 use Rattle.p3_cells.specs.declared.After.{After}
 use Rattle.p3_cells.specs.declared.Composition.{Composition}
-use Rattle.p3_calls.proofs.Kept.{new-sound, reset-sound, set-method-sound, set-enabled-sound, literal-sound, pop-sound}
+use Rattle.p3_calls.proofs.Kept.{new-sound, reset-sound, set-method-sound, set-enabled-sound, literal-sound, removal-sound}
 use Rattle.p3_calls.specs.Settings.{created}
 use Rattle.p3_key.proofs.Kept.{key-sound}
 use Rattle.p3_undo.proofs.Kept.{undo-sound}
@@ -51,9 +51,9 @@ module _ (b : List ℕ) (h : bytesSound b ≡ true) where
   unfolding literalOn
   literal-step l = literal-sound (compositionOf b) sound l
 
-  pub pop-step : (out : List ℕ) → isSound (removalOn b out .comp) ≡ true
+  pub removal-step : (out : List ℕ) → isSound (removalOn b out .comp) ≡ true
   unfolding removalOn
-  pop-step out = pop-sound (compositionOf b) sound (length out)
+  removal-step out = removal-sound (compositionOf b) sound (length out)
 
   pub undo-step : (t : ℕ) (raw : List ℕ) → isSound (undoOn b t raw .comp) ≡ true
   unfolding undoOn undoLeaving
@@ -76,8 +76,8 @@ module _ (b : List ℕ) (h : bytesSound b ≡ true) where
   pub literal-kept : (l : ℕ) → bytesSound (bytesOn b (literalOn b l)) ≡ true
   literal-kept l = on-sound (literalOn b l) (literal-step l)
 
-  pub pop-kept : (out : List ℕ) → bytesSound (bytesOn b (removalOn b out)) ≡ true
-  pop-kept out = on-sound (removalOn b out) (pop-step out)
+  pub removal-kept : (out : List ℕ) → bytesSound (bytesOn b (removalOn b out)) ≡ true
+  removal-kept out = on-sound (removalOn b out) (removal-step out)
 
   pub undo-kept : (t : ℕ) (raw : List ℕ) → bytesSound (bytesOn b (undoOn b t raw)) ≡ true
   undo-kept t raw = on-sound (undoOn b t raw) (undo-step t raw)
@@ -122,7 +122,7 @@ calls-keep-sound b h (byNew m) = new-kept b h m
 calls-keep-sound b h (byKey key out) = key-kept b h key out
 calls-keep-sound b h byText = h
 calls-keep-sound b h (byLiteral l) = literal-kept b h l
-calls-keep-sound b h (byRemoval out) = pop-kept b h out
+calls-keep-sound b h (byRemoval out) = removal-kept b h out
 calls-keep-sound b h (byUndo t raw) = undo-kept b h t raw
 calls-keep-sound b h byReset = reset-kept b h
 calls-keep-sound b h (byMethod m) = method-kept b h m

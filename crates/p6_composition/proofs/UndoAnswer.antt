@@ -1,4 +1,4 @@
--- What undo leaves, in the form of the other calls; and the bytes bytesAfter a call.
+-- What undo leaves, in the form of the other calls; and the bytes after a call.
 use Prim.Native.Nat.{ℕ}
 use mathlib.Core.Path.{_≡_, refl}
 use mathlib.Core.List.{List}
@@ -26,7 +26,7 @@ pub undo-leaving : (k : Undone) (a : Answer) → a ≡ undoAnswer (k .answer) �
 unfolding undoLeaving
 undo-leaving k a e = rw e refl
 
--- ---- the bytes bytesAfter it
+-- ---- the bytes after it
 pub after-done : (a : Answer) (n : ℕ) (b new : List ℕ) (d : Composition) → a ≡ Done n → new ≡ bytesOf d → new ≡ bytesAfter a b d
 after-done a n b new d e h = rw e h
 

@@ -24,7 +24,7 @@ use Rattle.p6_composition.specs.UndoAnswer.{undoLeaving}
 unfoldable pub answerOn : List ℕ → After → Answer
 answerOn b k = pick (bytesSound b) (k .answer) (Refused Unsound)
 
--- "A refusal returns its number; the composition .. [stays as it was]": the bytes bytesAfter an answer, b before
+-- "A refusal returns its number; the composition .. [stays as it was]": the bytes after an answer, b before
 abbrev pub bytesAfter : Answer → List ℕ → Composition → List ℕ
 bytesAfter a b d = unless a b (bytesOf d)
 
@@ -51,7 +51,7 @@ removalOn b out = removed (compositionOf b) (length out)
 unfoldable pub undoOn : List ℕ → ℕ → List ℕ → After
 undoOn b trigger raw = undoLeaving (undoTelex (compositionOf b) trigger raw)
 
--- A number that is no method, or no mode, is refusing as bytes that spell none are.
+-- A number that is no method, or no mode, is refused as bytes that spell none are.
 unfoldable pub orUnsound : List ℕ → ℕ → After → After
 orUnsound b n k = pick (leb n 1) k (refusing (compositionOf b) Unsound)
 

@@ -20,7 +20,7 @@ use Rattle.p6_composition.specs.Calls.{answerOn, bytesOn, keyOn, resetOn, liter
 use Rattle.p6_host.specs.Counts.{countOut}
 use Rattle.p6_host.proofs.Refused.{letter-kept, tone-kept, method-key-kept, mark-kept, sound-kept, onset-kept, vowels-kept}
 use Rattle.p6_host.proofs.Refused.{verdict-kept, count-kept, behaviour-kept, output-kept, bytes-kept, new-kept, text-out-kept}
-use Rattle.p6_host.proofs.Refused.{pop-out-kept, key-out-kept}
+use Rattle.p6_host.proofs.Refused.{removal-out-kept, key-out-kept}
 use Rattle.p6_host.proofs.composition as composition
 use Rattle.p6_host.proofs.input_method as method
 use Rattle.p6_host.proofs.letters as letters
@@ -182,7 +182,7 @@ undo-keeps κs a z w q h =
 pub remove-last-keeps : Keeps composition.pasdrongel_remove_last.Kinds.ps composition.pasdrongel_remove_last.Reads.Learnt (λ κs a. a)
 remove-last-keeps κs a z w q h =
     let k = removalOn (a .0 .now) (a .1 .0 .now) in
-    let out = pop-out-kept (a .0 .now) (a .1 .0 .now) in
+    let out = removal-out-kept (a .0 .now) (a .1 .0 .now) in
     let rest = output-and-count (a .1 .0) (a .1 .1 .0) (answerOn (a .0 .now) k) out (q .0, q .1 .1) h in
     lent (a .0) (bytes-kept (a .0 .now) k) (q .0, q .1 .0) h rest
 

@@ -105,9 +105,9 @@ module _ (b o : List ℕ) where
   unfolding textOn outOn
   text-out-kept h = out-kept (bytesSound b) (textOutcome (compositionOf b)) o h
 
-  pub pop-out-kept : (refusalOf (answerOn b (removalOn b o)) ≡ 0 → ⊥) → outOn b (removalOutcome (compositionOf b)) o ≡ o
+  pub removal-out-kept : (refusalOf (answerOn b (removalOn b o)) ≡ 0 → ⊥) → outOn b (removalOutcome (compositionOf b)) o ≡ o
   unfolding answerOn outOn removalOn removed leaving
-  pop-out-kept h = out-kept (bytesSound b) (removalOutcome (compositionOf b)) o h
+  removal-out-kept h = out-kept (bytesSound b) (removalOutcome (compositionOf b)) o h
 
   pub key-out-kept : (key : ℕ) → (refusalOf (answerOn b (keyOn b key o)) ≡ 0 → ⊥) → outOn b (keyOutcome (compositionOf b) key) o ≡ o
   unfolding answerOn outOn keyOn keyed leaving

@@ -1,4 +1,4 @@
--- The keys of a note, one afterKeys the other.
+-- The keys of a note, one after the other.
 use Prim.Native.Nat.{ℕ, _+_, _≤_, _<_}
 use mathlib.Core.Path.{_≡_, refl, ap, _∙_}
 use mathlib.Core.List.{List}

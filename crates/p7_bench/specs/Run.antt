@@ -1,4 +1,4 @@
--- A note is typed one key afterKeys the other.
+-- A note is typed one key after the other.
 use Prim.Native.Nat.{ℕ}
 use mathlib.Core.List.{List, [], _∷_}
 

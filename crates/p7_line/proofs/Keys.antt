@@ -94,7 +94,7 @@ module _ (s o : List ℕ) (g : Answer) (e : g ≡ answer (reading s) (length o))
         → o2 ≡ take at o1 ++ (lineOut m s ++ drop e o1)
     refused-line-out e at o1 o2 h = rw keys-refused h
 
-  -- .. or keysMade
+  -- .. or typed
   module _ (m : InputMethod) (n : ℕ) (out keys : List ℕ) (q : g ≡ Done n) (f : out ≡ output (reading s) o) (k : keys ≡ take n out) where
     pub keys-letters : allLetters keys ≡ true
     keys-letters = rw k (read-small s (take n out) (read-done n out q f) .1)

@@ -1,5 +1,5 @@
 use borrow.Author.Needs.{needs}
-use Rattle.p3_calls.proofs.Output.{pop-below, pop-fits, removal}
+use Rattle.p3_calls.proofs.Output.{removal-below, removal-fits, removal}
 use Rattle.p3_calls.proofs.pop_last.Statement.{statement}
 use Rattle.p3_calls.proofs.pop_last.Tie as tie
 
@@ -17,7 +17,7 @@ pop-last-spec =
     (λ c. (search removal, search removal))
     (λ c κs. search needs)
     (λ c. search needs)
-    (λ c. search pop-below)
-    (λ c κs. (search pop-fits, search needs))
+    (λ c. search removal-below)
+    (λ c κs. (search removal-fits, search needs))
     (λ c. search needs)
     (λ c. (search removal, search removal)))

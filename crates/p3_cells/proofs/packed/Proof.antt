@@ -1,5 +1,5 @@
 use borrow.Author.Needs.{needs}
-use Rattle.p3_cells.proofs.SoundTest.{weight-flagged, weight-plain, weight-upper, weight-lower}
+use Rattle.p3_cells.proofs.SoundTest.{packed-flagged, packed-plain, packed-upper, packed-lower}
 use Rattle.p3_cells.proofs.packed.Statement.{statement}
 use Rattle.p3_cells.proofs.packed.Tie as tie
 
@@ -9,4 +9,4 @@ packed-spec =
     (tie.spec
     (λ c. search needs) (λ c. search needs) (λ c. search needs) (λ c. search needs) (λ c. search needs) (λ c. search needs)
     (λ c. search needs) (λ c. search needs)
-    (λ c. (search weight-flagged, search weight-upper, search needs)) (λ c. (search weight-plain, search weight-lower, search needs)))
+    (λ c. (search packed-flagged, search packed-upper, search needs)) (λ c. (search packed-plain, search packed-lower, search needs)))

@@ -60,7 +60,7 @@ compose-spec =
     (λ c. (search needs, search needs, search needs, search needs))
     (λ c. search needs) (λ c. search needs) (λ c κs. search needs) (λ c. search needs) (λ c. search needs) (λ c. search needs)
     (λ c. (search needs, search needs, search needs, search faults-past))
-    -- the edit, and its stores
+    -- the stroke, and its stores
     (λ c κs. search needs) (λ c. search needs) (λ c. search needs) (λ c. search needs) (λ c κs. search needs) (λ c. search needs)
     (λ c. search needs) (λ c. search needs) (λ c. search needs) (λ c κs. search needs) (λ c κs. search needs) (λ c. search needs)
     (λ c. search needs) (λ c κs. search needs) (λ c. search needs) (λ c. search needs)
@@ -72,13 +72,13 @@ compose-spec =
     let loop = c .before .before .before in
     let also = loop .before in
     let put = also .before in
-    let edit = put .before .before .before .before in
-    let start = edit .before .before .before .before .before .before .before .before .before .before in (
+    let stroke = put .before .before .before .before in
+    let start = stroke .before .before .before .before .before .before .before .before .before .before in (
       search needs,
       simp length-set (search needs),
-      letters-stored _ _ (start .args .t1 .cells) (edit .stroke-of .result .at) (edit .stroke-of .result .also) (put .put-cell .result)
+      letters-stored _ _ (start .args .t1 .cells) (stroke .stroke-of .result .at) (stroke .stroke-of .result .also) (put .put-cell .result)
           (also .also-cell .result) (start .args .out .now) _ _ _ _ (long start) (loop .loop3 .inv .2)
-          (c .letter-for .ensures) (c .before .before .loop3-test .taken) (edit .stroke-of .ensures .3) (edit .stroke-of .ensures .4),
+          (c .letter-for .ensures) (c .before .before .loop3-test .taken) (stroke .stroke-of .ensures .3) (stroke .stroke-of .ensures .4),
     ))
     (λ c. search needs)
     -- the return
@@ -86,8 +86,8 @@ compose-spec =
     let also = c .before .before in
     let put = also .before in
     let lower = put .before in
-    let edit = lower .before .before .before in
-    let sound = edit .before .before .before in
+    let stroke = lower .before .before .before in
+    let sound = stroke .before .before .before in
     let past-left = sound .before in
     let past = past-left .before in
     let row-left = past .before in
@@ -96,5 +96,5 @@ compose-spec =
     let start = most .before .before in
     owner-right _ _ _ _ _ _ _ _ _ _ _ _ _ _ _ _ _ (long start) (past .loop2 .inv .3) (past-left .loop2-test .left) (start .pre)
     (sound .is-sound .ensures) (most .at-most .ensures) (row .loop .inv .3) (row .loop .inv .0)
-    (row-left .loop-test .left) (search needs) (edit .stroke-of .ensures .0) (lower .ascii-lower .ensures) (put .put-cell .ensures)
+    (row-left .loop-test .left) (search needs) (stroke .stroke-of .ensures .0) (lower .ascii-lower .ensures) (put .put-cell .ensures)
     (also .also-cell .ensures) (c .before .loop3 .inv .2) (c .before .loop3 .inv .0) (c .loop3-test .left)))
