@@ -7,10 +7,10 @@ use mathlib.Core.Bool.{Bool}
 use mathlib.Core.List.{List, _∷_}
 use native.Mathlib.Omega.{arith}
 use borrow.Author.Tests.{lt-ltb}
-use Rattle.p5_trie.specs.Mirror.{Trie, node, trieSize, nth, following, Node, Table, trieAt}
+use Rattle.p5_trie.specs.Mirror.{Trie, node, trieSize, nth, following, Table, trieAt}
 use Rattle.p5_trie.proofs.Tests.{depth}
 use Rattle.p5_trie.proofs.Words.{nth-past}
-use Rattle.p5_trie.proofs.Table.{SoundAt, Sound, opens, size-at, depth-at}
+use Rattle.p5_trie.proofs.Table.{Sound, opens, size-at, depth-at}
 
 pub record Passed (t : Table) (from y most e left : ℕ) : Type 0 where
   pub small : e ≤ t .count

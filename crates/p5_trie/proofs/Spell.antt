@@ -1,5 +1,5 @@
 -- The walk that spells: len letters are written, and the rest of the word v is number k of node e's trie.
-use Prim.Native.Nat.{ℕ, suc, max, _+_, _-_, _≤_, _<_}
+use Prim.Native.Nat.{ℕ, _+_, _-_, _≤_, _<_}
 use mathlib.Core.Path.{_≡_, sym, ap, _∙_}
 use mathlib.Core.Logic.{⊎-elim}
 use mathlib.Core.List.{List, [], _∷_, _++_, append-assoc}
@@ -8,10 +8,10 @@ use native.Mathlib.Numerals.{add-one}
 use lib.ListN.{length, take, set, length-set}
 use lib.Seq.{take-suc-set}
 use Rattle.p0_choice.proofs.Numbers.{below-or-not}
-use Rattle.p5_trie.specs.Mirror.{Trie, one, trieSize, nth, Node, Table, trieAt}
+use Rattle.p5_trie.specs.Mirror.{Trie, one, trieSize, nth, Table, trieAt}
 use Rattle.p5_trie.proofs.Tests.{depth}
 use Rattle.p5_trie.proofs.Words.{nth-end, nth-into, size-none}
-use Rattle.p5_trie.proofs.Table.{SoundAt, Sound, opens, at-none, depth-at}
+use Rattle.p5_trie.proofs.Table.{Sound, opens, at-none, depth-at}
 use Rattle.p5_trie.proofs.Scan.{Passed}
 
 pub record Spell (t : Table) (limit : ℕ) (v out : List ℕ) (len e k : ℕ) : Type 0 where

@@ -6,7 +6,7 @@ use mathlib.Core.Bool.{Bool}
 use native.Mathlib.Omega.{arith}
 use borrow.Author.Tests.{lt-ltb, le-ltb}
 use Rattle.p0_choice.proofs.Numbers.{below-or-not}
-use Rattle.p5_trie.specs.Mirror.{Trie, none, node, one, trieSize, Node, Table, grow, trieAt}
+use Rattle.p5_trie.specs.Mirror.{Trie, none, node, one, trieSize, Table, grow, trieAt}
 use Rattle.p5_trie.proofs.Tests.{depth}
 use Rattle.p5_trie.proofs.Words.{size-node}
 use Rattle.p5_trie.proofs.Following.{Live}

@@ -1,6 +1,6 @@
 -- The walk that finds the next word: i letters of w are followed to node e; should nothing after w lie there, the next word
 -- begins with `at` letters of w and goes on at node `back`.
-use Prim.Native.Nat.{ℕ, suc, max, _+_, _-_, _≤_, _<_}
+use Prim.Native.Nat.{ℕ, suc, _+_, _≤_, _<_}
 use mathlib.Core.Path.{_≡_, refl, sym, ap, _∙_}
 use mathlib.Core.Logic.{⊎-elim}
 use mathlib.Core.Bool.{Bool}
@@ -11,11 +11,11 @@ use lib.ListN.{length, take, drop, getD}
 use lib.Seq.{take-suc, drop-cons, drop-length}
 use borrow.Author.Tests.{le-ltb, eq-eqb, ne-eqb}
 use Rattle.p0_choice.proofs.Numbers.{below-or-not}
-use Rattle.p5_trie.specs.Mirror.{Trie, none, node, trieSize, nth, upTo, firstOr, following, Node, Table, trieAt}
+use Rattle.p5_trie.specs.Mirror.{Trie, none, node, trieSize, nth, upTo, firstOr, following, Table, trieAt}
 use Rattle.p5_trie.proofs.Tests.{depth}
 use Rattle.p5_trie.proofs.Words.{nth-some}
 use Rattle.p5_trie.proofs.Following.{numberOr, number-is, number-none, following-is}
-use Rattle.p5_trie.proofs.Table.{SoundAt, Sound, opens, at-none, no-depth, size-at, depth-at, all-live}
+use Rattle.p5_trie.proofs.Table.{Sound, opens, at-none, no-depth, size-at, depth-at, all-live}
 use Rattle.p5_trie.proofs.Scan.{Passed, Halts}
 
 first-none : (p z : List ℕ) → firstOr p none z ≡ z
@@ -156,9 +156,11 @@ module _ {t : Table} {root most : ℕ} {w : List ℕ} {e i back at : ℕ} (k : T
             opened
             ∙ following-into (take i w) (t .at b .letter) (t .at b .ends) (trieAt t (t .at b .down)) (trieAt t (t .at b .next)) (getD w i 0)
             (drop (suc i) w) kept equal
-            ∙ ap (λ (p : List ℕ). following p (trieAt t (t .at b .down)) (drop (suc i) w) (firstOr (take i w) (trieAt t (t .at b .next)) kept))
+            ∙ ap
+            (λ (p : List ℕ). following p (trieAt t (t .at b .down)) (drop (suc i) w) (firstOr (take i w) (trieAt t (t .at b .next)) kept))
             (ap (λ (x : ℕ). take i w ++ (x ∷ [])) equal ∙ sym (take-suc w i 0 l))
-            ∙ ap (λ (n : ℕ). following (take n w) (trieAt t (t .at b .down)) (drop n w) (firstOr (take i w) (trieAt t (t .at b .next)) kept))
+            ∙ ap
+            (λ (n : ℕ). following (take n w) (trieAt t (t .at b .down)) (drop n w) (firstOr (take i w) (trieAt t (t .at b .next)) kept))
             (sym (add-one i))
 
         few-down : trieSize (trieAt t (t .at b .down)) ≤ most
@@ -181,7 +183,8 @@ module _ {t : Table} {root most : ℕ} {w : List ℕ} {e i back at : ℕ} (k : T
             is =
                 rw (ed, en)
                 (into ∙ ap (λ (z : List ℕ). following (take (i + 1) w) (trieAt t (t .at b .down)) (drop (i + 1) w) z)
-                (first-at t s (take i w) (t .at b .next) kept (omega arith) ∙ sym (first-at t s (take i w) (t .at b .next) [] (omega arith))));
+                (first-at t s (take i w) (t .at b .next) kept (omega arith)
+                ∙ sym (first-at t s (take i w) (t .at b .next) [] (omega arith))));
           }
 
           -- none beside: as before
