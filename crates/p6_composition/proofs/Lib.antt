@@ -1,6 +1,7 @@
 pub mod UndoAnswer
 pub mod Kept
 pub mod Calls
+pub mod InPlace
 pub mod Counted
 pub mod Only
 pub mod Back

@@ -1,9 +1,13 @@
-// The calls on a composition given as bytes, which they find altered there. Each tests the bytes, reads the composition,
-// makes the call by value, and where that is done writes the composition back; after a refusal not a byte has changed.
+// The calls on a composition given as bytes, which they find altered there. Each tests the bytes once. Then cells are read
+// and stored where they lie, or the composition is read, the call made by value, and where that is done it is written back;
+// after a refusal not a byte has changed.
 ghost use mathlib.Core.Path.{_≡_};
-ghost use lib.ListN.{length};
+ghost use mathlib.Core.List.{_++_};
+ghost use Prim.Native.Nat.{_≤_};
+ghost use lib.ListN.{length, take, drop};
 ghost use Rattle.p3_calls.specs.Output.{textOutcome, removalOutcome};
-ghost use Rattle.p3_cells.specs.Cells.{used, holding};
+ghost use Rattle.p3_cells.specs.Cells.{limit, used, holding};
+ghost use Rattle.p3_cells.specs.Text.{textOf};
 ghost use Rattle.p3_key.specs.Process.{keyOutcome};
 ghost use Rattle.p6_bytes.specs.Bytes.{size, compositionOf, methodOf};
 ghost use Rattle.p6_composition.specs.UndoAnswer.{undoAnswer, undoLeaving};
@@ -11,9 +15,12 @@ ghost use Rattle.p6_composition.specs.Calls.{answerOn, bytesAfter, bytes
 ghost use Rattle.p6_composition.specs.Calls.{methodOn, modeOn, textOn, newOn, newBytes};
 use p0_refusals::Answer;
 use p0_refusals::Refusal;
+use p1_letters as letters;
 use p2_input_method::InputMethod;
 use p3_calls as calls;
+use p3_cells as cells;
 use p3_cells::After;
+use p3_cells::LIMIT;
 use p3_undo::TelexUndo;
 use p3_undo::Undone;
 use p6_bytes as bytes;
@@ -55,6 +62,19 @@ fn finish(k: After, state: &mut [u8]) -> Answer
     }
 }
 
+// The text of the first n cells, from the start of an output that has room for it.
+fn text(b: &[u8], n: usize, out: &mut [u32])
+    requires { ⌜ (length (now b) ≡ size) × (n ≤ limit) × (n ≤ length (now out)) ⌝ }
+    ensures { λ _. ⌜ now (out .exit) ≡ textOf (take n (compositionOf (now (b .entry)) .cells)) ++ drop n (now (out .entry)) ⌝ }
+{
+    let mut i: usize = 0;
+    while i < n {
+        let x = bytes::cell(b, i);
+        out[i] = cells::shown(x);
+        i += 1;
+    }
+}
+
 pub fn process_key(state: &mut [u8], key: u32, out: &mut [u32]) -> Answer
     ensures { λ r. ⌜ (r ≡ answerOn (now (state .entry)) (keyOn (now (state .entry)) key (now (out .entry))))
         × (now (state .exit) ≡ bytesOn (now (state .entry)) (keyOn (now (state .entry)) key (now (out .entry))))
@@ -75,9 +95,8 @@ pub fn reset(state: &mut [u8]) -> Answer
     if !bytes::bytes_ok(state) {
         return Answer::Refused(Refusal::Unsound);
     }
-    let c = bytes::decode(state);
-    let k = calls::reset(c);
-    finish(k, state)
+    bytes::put_zeros(state, 2, bytes::SIZE);
+    Answer::Done(0)
 }
 
 pub fn append_literal(state: &mut [u8], letter: u32) -> Answer
@@ -87,9 +106,17 @@ pub fn append_literal(state: &mut [u8], letter: u32) -> Answer
     if !bytes::bytes_ok(state) {
         return Answer::Refused(Refusal::Unsound);
     }
-    let c = bytes::decode(state);
-    let k = calls::append_literal(c, letter);
-    finish(k, state)
+    if !letters::in_alphabet(letter) {
+        return Answer::Refused(Refusal::Foreign);
+    }
+    let n = bytes::cell_count(state);
+    if LIMIT <= n {
+        return Answer::Refused(Refusal::Full);
+    }
+    let x = cells::typed(letter);
+    bytes::store(state, n, x);
+    state[2] = (n + 1) as u8;
+    Answer::Done(0)
 }
 
 pub fn pop_last(state: &mut [u8], out: &mut [u32]) -> Answer
@@ -100,9 +127,19 @@ pub fn pop_last(state: &mut [u8], out: &mut [u32]) -> Answer
     if !bytes::bytes_ok(state) {
         return Answer::Refused(Refusal::Unsound);
     }
-    let c = bytes::decode(state);
-    let k = calls::pop_last(c, out);
-    finish(k, state)
+    let n = bytes::cell_count(state);
+    if n == 0 {
+        return Answer::Refused(Refusal::Empty);
+    }
+    let m = n - 1;
+    if out.len() < m {
+        return Answer::Refused(Refusal::Short);
+    }
+    let z = cells::blank();
+    bytes::store(state, m, z);
+    state[2] = m as u8;
+    text(state, m, out);
+    Answer::Done(m)
 }
 
 pub fn undo_telex_transform(state: &mut [u8], trigger: u32, raw: &[u32]) -> Answer
@@ -125,8 +162,12 @@ pub fn get_output(state: &[u8], out: &mut [u32]) -> Answer
     if !bytes::bytes_ok(state) {
         return Answer::Refused(Refusal::Unsound);
     }
-    let c = bytes::decode(state);
-    calls::get_output(c, out)
+    let n = bytes::cell_count(state);
+    if out.len() < n {
+        return Answer::Refused(Refusal::Short);
+    }
+    text(state, n, out);
+    Answer::Done(n)
 }
 
 // ---- methods and modes by their numbers
@@ -150,10 +191,9 @@ pub fn set_method(state: &mut [u8], method: u32) -> Answer
     if 1 < method {
         return Answer::Refused(Refusal::Unsound);
     }
-    let m = method_of(method);
-    let c = bytes::decode(state);
-    let k = calls::set_method(c, m);
-    finish(k, state)
+    state[0] = method as u8;
+    bytes::put_zeros(state, 2, bytes::SIZE);
+    Answer::Done(0)
 }
 
 pub fn set_mode(state: &mut [u8], mode: u32) -> Answer
@@ -166,9 +206,12 @@ pub fn set_mode(state: &mut [u8], mode: u32) -> Answer
     if 1 < mode {
         return Answer::Refused(Refusal::Unsound);
     }
-    let c = bytes::decode(state);
-    let k = calls::set_enabled(c, mode == 0);
-    finish(k, state)
+    state[1] = mode as u8;
+    if mode == 0 {
+        return Answer::Done(0);
+    }
+    bytes::put_zeros(state, 2, bytes::SIZE);
+    Answer::Done(0)
 }
 
 // An empty Vietnamese composition, whatever the bytes were.
