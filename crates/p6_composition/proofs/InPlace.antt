@@ -88,6 +88,9 @@ set-room b i x v e t = omega (arith, set-size b i x (sound-size b (ok-sound b v 
 pub set-length : (b new : List ℕ) (i x : ℕ) → length new ≡ length (set b i x) → length new ≡ length b
 set-length b new i x e = e ∙ length-set b i x
 
+pub same-size : (b s : List ℕ) (i x : ℕ) → length s ≡ size → length b ≡ size → length (set s i x) ≡ length b
+same-size b s i x l k = set-size s i x l ∙ sym k
+
 -- ---- what is told and left, where k is what the call by value leaves
 module _ (b : List ℕ) (s : bytesSound b ≡ true) (k : After) where
   told : (d : Composition) (a : Answer) → record { comp = d; answer = a } ≡ k → a ≡ answerOn b k
@@ -179,8 +182,11 @@ module _ (b : List ℕ) (v : Bool) (e : v ≡ bytesSound b) (t : not v ≡ false
         rw (le-leb n 1 l) (leaving-nothing _ (compositionOf b) _ 0 d (set-done (compositionOf b) true whole refl) (f (eqb n 0) refl))
 
     module _ (z : n ≡ 0) where
-      vietnamese-leaves : record { comp = record
-          { cells = compositionOf b .cells; method = compositionOf b .method; mode = Vietnamese; count = compositionOf b .count }; answer = Done 0 }
+      vietnamese-leaves : record {
+        comp = record
+            { cells = compositionOf b .cells; method = compositionOf b .method; mode = Vietnamese; count = compositionOf b .count };
+        answer = Done 0;
+      }
           ≡ modeOn b n
       vietnamese-leaves = mode-leaves _ (λ on q. turned-on (compositionOf b) on (rw (sym q ∙ eq-eqb n 0 z) refl))
 
@@ -230,12 +236,15 @@ module _ (b : List ℕ) (v : Bool) (e : v ≡ bytesSound b) (t : not v ≡ false
         full-stays = stays b s (literalOn b ch) Full full-leaves
 
       module _ (l : n < limit) (x : Cell) (q : x ≡ typed ch) where
-        literal-leaves : record { comp = record {
-          cells = set (compositionOf b .cells) n x;
-          method = compositionOf b .method;
-          mode = compositionOf b .mode;
-          count = n + 1;
-        }; answer = Done 0 } ≡ literalOn b ch
+        literal-leaves : record {
+          comp = record {
+            cells = set (compositionOf b .cells) n x;
+            method = compositionOf b .method;
+            mode = compositionOf b .mode;
+            count = n + 1;
+          };
+          answer = Done 0;
+        } ≡ literalOn b ch
         unfolding literalOn literal
         literal-leaves =
             leaving-nothing _ (compositionOf b) _ 0 _
@@ -302,12 +311,15 @@ module _ (b : List ℕ) (v : Bool) (e : v ≡ bytesSound b) (t : not v ≡ false
         short-out = written b s _ o o (removal-short-out (compositionOf b) true whole refl some o (rw (← p) l))
 
       module _ (l : n - 1 ≤ length o) where
-        removal-leaves : (x : Cell) → x ≡ blank → record { comp = record {
-          cells = set (compositionOf b .cells) (n - 1) x;
-          method = compositionOf b .method;
-          mode = compositionOf b .mode;
-          count = n - 1;
-        }; answer = Done (n - 1) } ≡ removalOn b o
+        removal-leaves : (x : Cell) → x ≡ blank → record {
+          comp = record {
+            cells = set (compositionOf b .cells) (n - 1) x;
+            method = compositionOf b .method;
+            mode = compositionOf b .mode;
+            count = n - 1;
+          };
+          answer = Done (n - 1);
+        } ≡ removalOn b o
         unfolding removalOn
         removal-leaves x y = rw p (removal-done (compositionOf b) true whole refl some (length o) _ x y (rw (← p) l) refl)
 
