@@ -12,7 +12,7 @@ use Rattle.p3_cells.specs.Cells.{limit, blank, blanks}
 use Rattle.p3_cells.specs.declared.Cell.{Cell}
 use Rattle.p3_cells.specs.declared.Composition.{Composition}
 use Rattle.p3_cells.specs.declared.Mode.{Mode}
-use Rattle.p6_bytes.specs.Bytes.{head, start, size, methodByte, modeByte, flagByte, cellBytes, cellsBytes, zeros, headBytes, bytesOf}
+use Rattle.p6_bytes.specs.Bytes.{head, start, size, methodByte, modeByte, cellBytes, cellsBytes, zeros, headBytes, bytesOf}
 use Rattle.p6_bytes.specs.Bytes.{byteAt, cellAt, compositionOf, bytesSound}
 use Rattle.p6_bytes.specs.Mirror.{stored}
 use Rattle.p6_bytes.proofs.Reading.{cells-length, cells-at}
@@ -29,7 +29,8 @@ unfolding compositionOf
 cell-there b i r h e = e ∙ sym (cells-at limit b head i h)
 
 -- ---- a cell and the count, stored
-pub stored-is : (b next : List ℕ) (i : ℕ) (x : Cell) → next ≡ take (start i) b ++ (cellBytes x ++ drop (start i + 8) b) → next ≡ stored b i x
+pub stored-is : (b next : List ℕ) (i : ℕ) (x : Cell)
+    → next ≡ take (start i) b ++ (cellBytes x ++ drop (start i + 8) b) → next ≡ stored b i x
 unfolding stored
 stored-is b next i x e = e
 
@@ -55,11 +56,6 @@ pub count-stored : (c : Composition) (n : ℕ)
     → set (bytesOf c) 2 n ≡ bytesOf (record { cells = c .cells; method = c .method; mode = c .mode; count = n })
 unfolding bytesOf headBytes
 count-stored c n = refl
-
-pub method-stored : (c : Composition) (m : InputMethod) (n : ℕ) → n ≡ methodByte m
-    → set (bytesOf c) 0 n ≡ bytesOf (record { cells = c .cells; method = m; mode = c .mode; count = c .count })
-unfolding bytesOf headBytes
-method-stored c m n e = rw e refl
 
 pub mode-stored : (c : Composition) (o : Mode) (n : ℕ) → n ≡ modeByte o
     → set (bytesOf c) 1 n ≡ bytesOf (record { cells = c .cells; method = c .method; mode = o; count = c .count })

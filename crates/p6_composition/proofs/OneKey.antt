@@ -8,8 +8,6 @@ use lib.ListN.{length, getD, take, drop, set, length-set}
 use borrow.Author.Tests.{lt-ltb, le-ltb, not-true}
 use mir.Syntax.{w8}
 use mir.Val.{Fits}
-use Rattle.p0_refusals.specs.Answers.{output}
-use Rattle.p0_refusals.specs.declared.Answer.{Answer}
 use Rattle.p0_refusals.specs.declared.Answer.the-variants.{Done, Refused}
 use Rattle.p0_refusals.specs.declared.Refusal.{Refusal}
 use Rattle.p0_refusals.specs.declared.Refusal.the-variants.{Foreign, Full, Short}
@@ -17,7 +15,7 @@ use Rattle.p1_letters.specs.Alphabet.{inAlphabet, asciiLower}
 use Rattle.p2_input_method.specs.declared.InputMethod.{InputMethod}
 use Rattle.p3_acts.specs.Mirror.{acts}
 use Rattle.p3_acts.proofs.Idle.{idle-step}
-use Rattle.p3_cells.specs.Cells.{limit, blank, isSound, used}
+use Rattle.p3_cells.specs.Cells.{limit, blank, used}
 use Rattle.p3_cells.specs.Leaving.{leaving}
 use Rattle.p3_cells.specs.Mirror.{rowCells}
 use Rattle.p3_cells.specs.Row.{bases}
@@ -156,7 +154,8 @@ module _ (b : List ℕ) (v : Bool) (e : v ≡ bytesSound b) (t : not v ≡ false
 
   -- a refusal: nothing changes
   abbrev Refuses : Refusal → Type 0
-  Refuses r = (Refused r ≡ answerOn b (keyOn b key o)) × (b ≡ bytesOn b (keyOn b key o)) × (o ≡ outOn b (keyOutcome (compositionOf b) key) o)
+  Refuses r =
+      (Refused r ≡ answerOn b (keyOn b key o)) × (b ≡ bytesOn b (keyOn b key o)) × (o ≡ outOn b (keyOutcome (compositionOf b) key) o)
 
   refused : (r : Refusal) → IsStroke (noStroke r (compositionOf b .count)) → Refuses r
   refused r q = (refused-told r q, refused-stays r q, refused-out r q)
@@ -182,7 +181,15 @@ module _ (b : List ℕ) (v : Bool) (e : v ≡ bytesSound b) (t : not v ≡ false
           pass-short = refused Short no-room
 
         module _ (l : 1 ≤ length o) where
-          passes : IsStroke (record { change = Nothing; at = 0; also = 0; mark = 0; count = compositionOf b .count; letters = 1; answer = Done 1 })
+          passes : IsStroke (record {
+            change = Nothing;
+            at = 0;
+            also = 0;
+            mark = 0;
+            count = compositionOf b .count;
+            letters = 1;
+            answer = Done 1;
+          })
           unfolding passStroke
           passes = stroke-pass true _ _ _ key _ _ _ u refl a w (english _ i h z) (rw (le-ltb (length o) 1 l) refl)
 

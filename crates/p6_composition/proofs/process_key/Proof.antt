@@ -77,7 +77,8 @@ process-key-spec =
     let passed = alphabet .before in
     let test = passed .before in
     let size = ok-size _ _ (test .bytes-ok .ensures) (passed .if1 .left) in
-    let at = places _ _ (test .bytes-ok .ensures) (passed .if1 .left) _ (test .before .before .before .before .args .out .now) _ (alphabet .in-alphabet .ensures) (letter .if2 .left) _
+    let at = places _ _ (test .bytes-ok .ensures) (passed .if1 .left) _ (test .before .before .before .before .args .out .now) _
+    (alphabet .in-alphabet .ensures) (letter .if2 .left) _
     (mode .mode-number .ensures) (other .if3 .left) _ _ _ _ (number .method-number .ensures) (method .method-of .ensures)
     (lower .ascii-lower .ensures) (step .step-on .ensures) (c .before .before .if5 .left) in
     (size, at .0, at .1, c .before .before .if5 .left))
