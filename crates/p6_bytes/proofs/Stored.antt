@@ -1,6 +1,6 @@
--- The cells where they lie: one is read, their bases fill a row, and one, or the count, is stored.
-use Prim.Native.Nat.{ℕ, zero, suc, _+_, _*_, _-_, _<_, _≤_}
-use mathlib.Core.Path.{_≡_, refl, sym, ap, _∙_}
+-- The cells where they lie: one is read, and one, or a byte of the head, is stored.
+use Prim.Native.Nat.{ℕ, zero, suc, _+_, _*_, _-_, _<_}
+use mathlib.Core.Path.{_≡_, refl, sym, _∙_}
 use mathlib.Core.Bool.{true}
 use mathlib.Core.List.{List, [], _∷_, _++_}
 use native.Mathlib.Omega.{arith}
@@ -9,12 +9,10 @@ use mir.Syntax.{w8}
 use mir.Val.{Fits}
 use Rattle.p2_input_method.specs.declared.InputMethod.{InputMethod}
 use Rattle.p3_cells.specs.Cells.{limit, blank, blanks}
-use Rattle.p3_cells.specs.Row.{bases}
 use Rattle.p3_cells.specs.declared.Cell.{Cell}
 use Rattle.p3_cells.specs.declared.Composition.{Composition}
 use Rattle.p3_cells.specs.declared.Mode.{Mode}
-use Rattle.p3_cells.proofs.Fill.{Filled, fill-none, fill-more, filled}
-use Rattle.p6_bytes.specs.Bytes.{head, start, size, methodByte, modeByte, flagByte, cellBytes, cellsBytes, zeros, headBytes, bytesOf}
+use Rattle.p6_bytes.specs.Bytes.{head, start, size, methodByte, modeByte, cellBytes, cellsBytes, zeros, headBytes, bytesOf}
 use Rattle.p6_bytes.specs.Bytes.{byteAt, cellAt, compositionOf, bytesSound}
 use Rattle.p6_bytes.specs.Mirror.{stored}
 use Rattle.p6_bytes.proofs.Reading.{cells-length, cells-at}
@@ -30,30 +28,9 @@ pub cell-there : (b : List ℕ) (i : ℕ) (r : Cell) → i < limit → r ≡ cel
 unfolding compositionOf
 cell-there b i r h e = e ∙ sym (cells-at limit b head i h)
 
--- ---- the row of bases
-base-there : (b : List ℕ) (i : ℕ) → i < limit
-    → byteAt b (start i) + byteAt b (start i + 1) * 256 + byteAt b (start i + 2) * 65536 + byteAt b (start i + 3) * 16777216
-    ≡ getD (compositionOf b .cells) i blank .base
-unfolding cellAt
-base-there b i h = ap (λ (x : Cell). x .base) (cell-there b i (cellAt b (start i)) h refl)
-
-pub fill-start : (b row : List ℕ) → Filled (compositionOf b .cells) row 0
-fill-start b row = fill-none (compositionOf b .cells) row
-
-pub fill-on : (b row₀ row : List ℕ) (i n v : ℕ) → Filled (compositionOf b .cells) row i → i < n → n ≤ limit → n ≤ length row₀
-    → length row ≡ length row₀
-    → v ≡ byteAt b (start i) + byteAt b (start i + 1) * 256 + byteAt b (start i + 2) * 65536 + byteAt b (start i + 3) * 16777216
-    → Filled (compositionOf b .cells) (set row i v) (i + 1)
-fill-on b row₀ row i n v f h l m k e =
-    let a = cells-all b in
-    fill-more (compositionOf b .cells) row i v f (e ∙ base-there b i (omega arith)) (omega arith) (omega arith)
-
-pub fill-done : (b row : List ℕ) (i n : ℕ) → Filled (compositionOf b .cells) row i → i ≤ n → n ≤ i
-    → take n row ≡ bases (take n (compositionOf b .cells))
-fill-done b row i n f l h = let z : i ≡ n = omega arith in rw z at (filled (compositionOf b .cells) row i f)
-
 -- ---- a cell and the count, stored
-pub stored-is : (b next : List ℕ) (i : ℕ) (x : Cell) → next ≡ take (start i) b ++ (cellBytes x ++ drop (start i + 8) b) → next ≡ stored b i x
+pub stored-is : (b next : List ℕ) (i : ℕ) (x : Cell)
+    → next ≡ take (start i) b ++ (cellBytes x ++ drop (start i + 8) b) → next ≡ stored b i x
 unfolding stored
 stored-is b next i x e = e
 
@@ -79,11 +56,6 @@ pub count-stored : (c : Composition) (n : ℕ)
     → set (bytesOf c) 2 n ≡ bytesOf (record { cells = c .cells; method = c .method; mode = c .mode; count = n })
 unfolding bytesOf headBytes
 count-stored c n = refl
-
-pub method-stored : (c : Composition) (m : InputMethod) (n : ℕ) → n ≡ methodByte m
-    → set (bytesOf c) 0 n ≡ bytesOf (record { cells = c .cells; method = m; mode = c .mode; count = c .count })
-unfolding bytesOf headBytes
-method-stored c m n e = rw e refl
 
 pub mode-stored : (c : Composition) (o : Mode) (n : ℕ) → n ≡ modeByte o
     → set (bytesOf c) 1 n ≡ bytesOf (record { cells = c .cells; method = c .method; mode = o; count = c .count })

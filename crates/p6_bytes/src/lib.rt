@@ -7,7 +7,6 @@ ghost use lib.Dec.{eqb};
 ghost use lib.ListN.{length, getD, take, drop};
 ghost use Rattle.p0_choice.specs.Choice.{pick};
 ghost use Rattle.p3_cells.specs.Cells.{limit, blank, blanks, used, holding};
-ghost use Rattle.p3_cells.specs.Row.{bases};
 ghost use Rattle.p6_bytes.specs.Bytes.{head, size, methodByte, modeByte, flagByte, cellBytes, cellsBytes, zeros, bytesOf, cellAt};
 ghost use Rattle.p6_bytes.specs.Bytes.{start, methodOf, modeOf, cellsAt, compositionOf, reservedZero, bytesSound};
 ghost use Rattle.p6_bytes.specs.Mirror.{longAt, cellFits, cellsFit, zeroFrom, stored};
@@ -122,7 +121,16 @@ fn long_at(b: &[u8], at: usize) -> u64
     requires { ⌜ at + 8 ≤ length (now b) ⌝ }
     ensures { λ r. ⌜ r ≡ longAt (now (b .entry)) at ⌝ }
 {
-    eight(b[at], b[at + 1], b[at + 2], b[at + 3], b[at + 4], b[at + 5], b[at + 6], b[at + 7])
+    eight(
+        b[at],
+        b[at + 1],
+        b[at + 2],
+        b[at + 3],
+        b[at + 4],
+        b[at + 5],
+        b[at + 6],
+        b[at + 7],
+    )
 }
 
 // The bytes of the head from KNOWN on.
@@ -348,18 +356,4 @@ pub fn store(b: &mut [u8], i: usize, x: Cell)
     ensures { λ _. ⌜ (length (now (b .exit)) ≡ size) × (now (b .exit) ≡ stored (now (b .entry)) i x) ⌝ }
 {
     put_cell(b, HEAD + 8 * i, x);
-}
-
-// The bases of the first n cells, from the start of a row.
-pub fn fill(b: &[u8], n: usize, row: &mut [u32])
-    requires { ⌜ (length (now b) ≡ size) × (n ≤ limit) × (n ≤ length (now row)) ⌝ }
-    ensures { λ _. ⌜ (length (now (row .exit)) ≡ length (now (row .entry)))
-        × (take n (now (row .exit)) ≡ bases (take n (compositionOf (now (b .entry)) .cells))) ⌝ }
-{
-    let mut i: usize = 0;
-    while i < n {
-        let at = HEAD + 8 * i;
-        row[i] = four(b[at], b[at + 1], b[at + 2], b[at + 3]);
-        i += 1;
-    }
 }

@@ -9,15 +9,15 @@ use lib.ListN.{length, getD, take, drop, set, length-set, drop-of-length-le}
 use borrow.Author.Tests.{eq-eqb, ne-eqb, le-leb}
 use mir.Syntax.{w8}
 use mir.Val.{Fits}
-use Rattle.p0_refusals.specs.Answers.{Outcome, answer, output}
+use Rattle.p0_refusals.specs.Answers.{Outcome, output}
 use Rattle.p0_refusals.specs.declared.Answer.{Answer}
 use Rattle.p0_refusals.specs.declared.Answer.the-variants.{Done, Refused}
 use Rattle.p0_refusals.specs.declared.Refusal.{Refusal}
 use Rattle.p0_refusals.specs.declared.Refusal.the-variants.{Foreign, Full, Short, Empty}
 use Rattle.p1_letters.specs.Alphabet.{inAlphabet}
 use Rattle.p2_input_method.specs.declared.InputMethod.{InputMethod}
-use Rattle.p3_cells.specs.Cells.{limit, blank, blanks, typed, isSound, used, holding}
-use Rattle.p3_cells.specs.Leaving.{leaving, refusing}
+use Rattle.p3_cells.specs.Cells.{limit, blank, typed, isSound, used}
+use Rattle.p3_cells.specs.Leaving.{refusing}
 use Rattle.p3_cells.specs.Text.{shown, textOf}
 use Rattle.p3_cells.specs.declared.After.{After}
 use Rattle.p3_cells.specs.declared.Cell.{Cell}
@@ -27,7 +27,7 @@ use Rattle.p3_cells.specs.declared.Mode.the-variants.{Vietnamese, English}
 use Rattle.p3_cells.proofs.Leaving.{leaving-refused, leaving-nothing}
 use Rattle.p3_cells.proofs.Text.{writtenTo, written-none, written-more}
 use Rattle.p3_calls.specs.Literal.{literal}
-use Rattle.p3_calls.specs.Output.{textOutcome, removalOutcome, removed}
+use Rattle.p3_calls.specs.Output.{textOutcome, removalOutcome}
 use Rattle.p3_calls.specs.Settings.{empty, resetTo, methodSet, turned, enabledSet}
 use Rattle.p3_calls.proofs.Literal.{literal-foreign, literal-full, literal-done, literal-appended}
 use Rattle.p3_calls.proofs.Output.{text-short, text-short-out, text-done, text-done-out, removal-empty, removal-empty-out, removal-short}
@@ -87,6 +87,9 @@ set-room b i x v e t = omega (arith, set-size b i x (sound-size b (ok-sound b v 
 
 pub set-length : (b new : List ℕ) (i x : ℕ) → length new ≡ length (set b i x) → length new ≡ length b
 set-length b new i x e = e ∙ length-set b i x
+
+pub same-size : (b s : List ℕ) (i x : ℕ) → length s ≡ size → length b ≡ size → length (set s i x) ≡ length b
+same-size b s i x l k = set-size s i x l ∙ sym k
 
 -- ---- what is told and left, where k is what the call by value leaves
 module _ (b : List ℕ) (s : bytesSound b ≡ true) (k : After) where
@@ -166,7 +169,9 @@ module _ (b : List ℕ) (v : Bool) (e : v ≡ bytesSound b) (t : not v ≡ false
     pub method-told : Done 0 ≡ answerOn b (methodOn b n)
     method-told = told b s (methodOn b n) _ (Done 0) method-leaves
 
-    pub method-cleared : (new : List ℕ) → new ≡ take 2 (set b 0 n) ++ (zeros (size - 2) ++ drop size (set b 0 n)) → new ≡ bytesOn b (methodOn b n)
+    pub method-cleared : (new : List ℕ)
+        → new ≡ take 2 (set b 0 n) ++ (zeros (size - 2) ++ drop size (set b 0 n))
+        → new ≡ bytesOn b (methodOn b n)
     method-cleared new h = becomes b s (methodOn b n) _ 0 new method-leaves
         (cleared (set b 0 n) new _ _ _ _ (set-size b 0 n long) (first b n (omega (arith, long))) (sym (method-forth n l))
         (mode-field b s _ refl) h)
@@ -179,8 +184,11 @@ module _ (b : List ℕ) (v : Bool) (e : v ≡ bytesSound b) (t : not v ≡ false
         rw (le-leb n 1 l) (leaving-nothing _ (compositionOf b) _ 0 d (set-done (compositionOf b) true whole refl) (f (eqb n 0) refl))
 
     module _ (z : n ≡ 0) where
-      vietnamese-leaves : record { comp = record
-          { cells = compositionOf b .cells; method = compositionOf b .method; mode = Vietnamese; count = compositionOf b .count }; answer = Done 0 }
+      vietnamese-leaves : record {
+        comp = record
+            { cells = compositionOf b .cells; method = compositionOf b .method; mode = Vietnamese; count = compositionOf b .count };
+        answer = Done 0;
+      }
           ≡ modeOn b n
       vietnamese-leaves = mode-leaves _ (λ on q. turned-on (compositionOf b) on (rw (sym q ∙ eq-eqb n 0 z) refl))
 
@@ -198,7 +206,9 @@ module _ (b : List ℕ) (v : Bool) (e : v ≡ bytesSound b) (t : not v ≡ false
       pub mode-told : Done 0 ≡ answerOn b (modeOn b n)
       mode-told = told b s (modeOn b n) _ (Done 0) english-leaves
 
-      pub mode-cleared : (new : List ℕ) → new ≡ take 2 (set b 1 n) ++ (zeros (size - 2) ++ drop size (set b 1 n)) → new ≡ bytesOn b (modeOn b n)
+      pub mode-cleared : (new : List ℕ)
+          → new ≡ take 2 (set b 1 n) ++ (zeros (size - 2) ++ drop size (set b 1 n))
+          → new ≡ bytesOn b (modeOn b n)
       mode-cleared new h = becomes b s (modeOn b n) _ 0 new english-leaves
           (cleared (set b 1 n) new _ _ _ English (set-size b 1 n long) (second b n (omega (arith, long))) (method-field b s _ refl)
           (omega arith) h)
@@ -230,12 +240,15 @@ module _ (b : List ℕ) (v : Bool) (e : v ≡ bytesSound b) (t : not v ≡ false
         full-stays = stays b s (literalOn b ch) Full full-leaves
 
       module _ (l : n < limit) (x : Cell) (q : x ≡ typed ch) where
-        literal-leaves : record { comp = record {
-          cells = set (compositionOf b .cells) n x;
-          method = compositionOf b .method;
-          mode = compositionOf b .mode;
-          count = n + 1;
-        }; answer = Done 0 } ≡ literalOn b ch
+        literal-leaves : record {
+          comp = record {
+            cells = set (compositionOf b .cells) n x;
+            method = compositionOf b .method;
+            mode = compositionOf b .mode;
+            count = n + 1;
+          };
+          answer = Done 0;
+        } ≡ literalOn b ch
         unfolding literalOn literal
         literal-leaves =
             leaving-nothing _ (compositionOf b) _ 0 _
@@ -302,12 +315,15 @@ module _ (b : List ℕ) (v : Bool) (e : v ≡ bytesSound b) (t : not v ≡ false
         short-out = written b s _ o o (removal-short-out (compositionOf b) true whole refl some o (rw (← p) l))
 
       module _ (l : n - 1 ≤ length o) where
-        removal-leaves : (x : Cell) → x ≡ blank → record { comp = record {
-          cells = set (compositionOf b .cells) (n - 1) x;
-          method = compositionOf b .method;
-          mode = compositionOf b .mode;
-          count = n - 1;
-        }; answer = Done (n - 1) } ≡ removalOn b o
+        removal-leaves : (x : Cell) → x ≡ blank → record {
+          comp = record {
+            cells = set (compositionOf b .cells) (n - 1) x;
+            method = compositionOf b .method;
+            mode = compositionOf b .mode;
+            count = n - 1;
+          };
+          answer = Done (n - 1);
+        } ≡ removalOn b o
         unfolding removalOn
         removal-leaves x y = rw p (removal-done (compositionOf b) true whole refl some (length o) _ x y (rw (← p) l) refl)
 
@@ -337,3 +353,19 @@ module _ (b : List ℕ) (v : Bool) (e : v ≡ bytesSound b) (t : not v ≡ false
           removal-written new q =
               written b s _ o new
               (removal-done-out (compositionOf b) true whole refl some o new x y (rw (← p) l) (rw (← p) (rw cells-now at q)))
+
+pub ruleset modes = (mode-kept-told, mode-kept-bytes, mode-told, mode-cleared)
+
+pub ruleset literals = (foreign-told, foreign-stays, full-told, full-stays, literal-told, literal-stored)
+
+pub ruleset removals = (
+  empty-told,
+  empty-stays,
+  empty-out,
+  short-told,
+  short-stays,
+  short-out,
+  removal-told,
+  removal-stored,
+  removal-written,
+)

@@ -2,14 +2,19 @@
 // and stored where they lie, or the composition is read, the call made by value, and where that is done it is written back;
 // after a refusal not a byte has changed.
 ghost use mathlib.Core.Path.{_≡_};
+ghost use mathlib.Core.Bool.{true};
 ghost use mathlib.Core.List.{_++_};
-ghost use Prim.Native.Nat.{_≤_};
+ghost use Prim.Native.Nat.{_<_, _≤_};
 ghost use lib.ListN.{length, take, drop};
 ghost use Rattle.p3_calls.specs.Output.{textOutcome, removalOutcome};
 ghost use Rattle.p3_cells.specs.Cells.{limit, used, holding};
+ghost use Rattle.p3_cells.specs.Mirror.{rowCells};
+ghost use Rattle.p3_cells.specs.Row.{bases};
 ghost use Rattle.p3_cells.specs.Text.{textOf};
+ghost use Rattle.p3_step.specs.Mirror.{stepOf};
 ghost use Rattle.p3_key.specs.Process.{keyOutcome};
-ghost use Rattle.p6_bytes.specs.Bytes.{size, compositionOf, methodOf};
+ghost use Rattle.p6_bytes.specs.Bytes.{size, compositionOf, methodOf, bytesSound};
+ghost use Rattle.p6_composition.specs.Mirror.{applied};
 ghost use Rattle.p6_composition.specs.UndoAnswer.{undoAnswer, undoLeaving};
 ghost use Rattle.p6_composition.specs.Calls.{answerOn, bytesAfter, bytesOn, outOn, keyOn, resetOn, literalOn, removalOn, undoOn};
 ghost use Rattle.p6_composition.specs.Calls.{methodOn, modeOn, textOn, newOn, newBytes};
@@ -21,6 +26,9 @@ use p3_calls as calls;
 use p3_cells as cells;
 use p3_cells::After;
 use p3_cells::LIMIT;
+use p3_step as step;
+use p3_step::Change;
+use p3_step::Step;
 use p3_undo::TelexUndo;
 use p3_undo::Undone;
 use p6_bytes as bytes;
@@ -75,6 +83,57 @@ fn text(b: &[u8], n: usize, out: &mut [u32])
     }
 }
 
+// ---- a key
+
+// The bases of the first n cells, from the start of a row.
+fn fill(b: &[u8], n: usize, row: &mut [u32])
+    requires { ⌜ (length (now b) ≡ size) × (n ≤ limit) × (n ≤ length (now row)) ⌝ }
+    ensures { λ _. ⌜ take n (now (row .exit)) ≡ bases (take n (compositionOf (now (b .entry)) .cells)) ⌝ }
+{
+    let mut i: usize = 0;
+    while i < n {
+        let x = bytes::cell(b, i);
+        row[i] = x.base;
+        i += 1;
+    }
+}
+
+// The step of a key in lower case. For one that does not act there is no row.
+fn step_on(b: &[u8], m: InputMethod, k: u32, n: usize) -> Step
+    requires { ⌜ (bytesSound (now b) ≡ true) × (n ≡ compositionOf (now b) .count) × (n ≤ limit) ⌝ }
+    ensures { λ r. ⌜ r ≡ stepOf m (rowCells (bases (used (compositionOf (now (b .entry)))))) k ⌝ }
+{
+    if !p3_acts::acts(m, k) {
+        return Step {
+            change: Change::Append,
+            at: n,
+            also: n,
+            mark: 0,
+            count: n + 1,
+        };
+    }
+    let mut row = [0u32; LIMIT];
+    fill(b, n, &mut row);
+    step::first_step(m, &row[0..n], k)
+}
+
+// Stores the cells of a step, and the count.
+fn apply(b: &mut [u8], s: Step, key: u32, k: u32)
+    requires { ⌜ (length (now b) ≡ size) × (s .at < limit) × (s .also < limit) × (s .count ≤ limit) ⌝ }
+    ensures { λ _. ⌜ (length (now (b .exit)) ≡ size) × (now (b .exit) ≡ applied (now (b .entry)) s key k) ⌝ }
+{
+    let change = s.change;
+    let i = s.at;
+    let j = s.also;
+    let x = bytes::cell(b, i);
+    let y = bytes::cell(b, j);
+    let p = step::put_cell(change, s.mark, x, y, key, k);
+    let q = step::also_cell(change, p);
+    bytes::store(b, i, p);
+    bytes::store(b, j, q);
+    b[2] = s.count as u8;
+}
+
 pub fn process_key(state: &mut [u8], key: u32, out: &mut [u32]) -> Answer
     ensures { λ r. ⌜ (r ≡ answerOn (now (state .entry)) (keyOn (now (state .entry)) key (now (out .entry))))
         × (now (state .exit) ≡ bytesOn (now (state .entry)) (keyOn (now (state .entry)) key (now (out .entry))))
@@ -83,10 +142,33 @@ pub fn process_key(state: &mut [u8], key: u32, out: &mut [u32]) -> Answer
     if !bytes::bytes_ok(state) {
         return Answer::Refused(Refusal::Unsound);
     }
-    let c = bytes::decode(state);
-    let k = p3_key::process_sound_key(c, key, out);
-    finish(k, state)
+    if !letters::in_alphabet(key) {
+        return Answer::Refused(Refusal::Foreign);
+    }
+    let o = bytes::mode_number(state);
+    if o == 1 {
+        if out.len() < 1 {
+            return Answer::Refused(Refusal::Short);
+        }
+        out[0] = key;
+        return Answer::Done(1);
+    }
+    let m = method_of(bytes::method_number(state));
+    let k = letters::ascii_lower(key);
+    let s = step_on(state, m, k, bytes::cell_count(state));
+    let count = s.count;
+    if LIMIT < count {
+        return Answer::Refused(Refusal::Full);
+    }
+    if out.len() < count {
+        return Answer::Refused(Refusal::Short);
+    }
+    apply(state, s, key, k);
+    text(state, count, out);
+    Answer::Done(count)
 }
+
+// ---- the other calls
 
 pub fn reset(state: &mut [u8]) -> Answer
     ensures { λ r. ⌜ (r ≡ answerOn (now (state .entry)) (resetOn (now (state .entry))))

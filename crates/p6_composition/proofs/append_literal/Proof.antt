@@ -1,10 +1,10 @@
 use borrow.Author.Needs.{needs}
 use Rattle.p6_composition.proofs.Calls.{ok-sound, ok-size, unsound-answer, unsound-bytes}
-use Rattle.p6_composition.proofs.InPlace.{few, set-length, foreign-told, foreign-stays, full-told, full-stays, literal-told, literal-stored}
+use Rattle.p6_composition.proofs.InPlace.{few, set-length, literals}
 use Rattle.p6_composition.proofs.append_literal.Statement.{statement}
 use Rattle.p6_composition.proofs.append_literal.Tie as tie
 
-ruleset answers = (needs, ok-sound, ok-size, unsound-answer, unsound-bytes, few, set-length, foreign-told, foreign-stays, full-told, full-stays, literal-told, literal-stored)
+ruleset answers = (needs, ok-sound, ok-size, unsound-answer, unsound-bytes, few, set-length, literals)
 
 pub append-literal-spec : {M : Type 1} → statement M
 append-literal-spec =

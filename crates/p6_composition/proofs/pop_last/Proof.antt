@@ -1,10 +1,11 @@
 use borrow.Author.Needs.{needs}
 use Rattle.p6_composition.proofs.Calls.{ok-sound, ok-size, unsound-answer, unsound-bytes, unsound-out}
-use Rattle.p6_composition.proofs.InPlace.{set-size, less-few, less-byte, less-below, empty-told, empty-stays, empty-out, short-told, short-stays, short-out, removal-told, removal-stored, removal-written}
+use Rattle.p6_composition.proofs.InPlace.{set-size, less-few, less-byte, less-below, removals}
 use Rattle.p6_composition.proofs.pop_last.Statement.{statement}
 use Rattle.p6_composition.proofs.pop_last.Tie as tie
 
-ruleset answers = (needs, ok-sound, ok-size, unsound-answer, unsound-bytes, unsound-out, set-size, less-few, less-byte, less-below, empty-told, empty-stays, empty-out, short-told, short-stays, short-out, removal-told, removal-stored, removal-written)
+ruleset answers =
+    (needs, ok-sound, ok-size, unsound-answer, unsound-bytes, unsound-out, set-size, less-few, less-byte, less-below, removals)
 
 pub pop-last-spec : {M : Type 1} → statement M
 pop-last-spec =

@@ -5,7 +5,20 @@ use Rattle.p6_composition.proofs.InPlace.{set-room, set-length, method-
 use Rattle.p6_composition.proofs.set_method.Statement.{statement}
 use Rattle.p6_composition.proofs.set_method.Tie as tie
 
-ruleset answers = (needs, byte-there, ok-sound, ok-size, unsound-answer, unsound-bytes, no-method, no-method-bytes, set-room, set-length, method-told, method-cleared)
+ruleset answers = (
+  needs,
+  byte-there,
+  ok-sound,
+  ok-size,
+  unsound-answer,
+  unsound-bytes,
+  no-method,
+  no-method-bytes,
+  set-room,
+  set-length,
+  method-told,
+  method-cleared,
+)
 
 pub set-method-spec : {M : Type 1} → statement M
 set-method-spec =

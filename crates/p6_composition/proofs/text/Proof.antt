@@ -1,6 +1,6 @@
 use borrow.Author.Needs.{needs}
 use Prim.Native.Nat.{_≤_, _-_}
-use lib.ListN.{length, length-set}
+use lib.ListN.{length}
 use Rattle.p3_cells.proofs.Text.{writtenTo}
 use Rattle.p6_bytes.specs.Bytes.{compositionOf}
 use Rattle.p6_composition.proofs.InPlace.{text-start, text-on, text-all}
