@@ -183,17 +183,16 @@ def function(numbers):
     arms = "\n".join(f"        {i} => {n}," for i, n in enumerate(numbers))
     return f"""// The table of nodes that specs/Mirror.antt of p5_listing defines, as arms that the compiler makes a constant table of; one
 // function alone calls it, so that the table is read where it is used. Written by tools/nodes.py.
-ghost use Prim.Native.Nat.{{_<_}};
 ghost use mathlib.Core.Path.{{_≡_}};
-ghost use Rattle.p5_listing.specs.Mirror.{{nodeCount, entryAt, letterIn, downIn, wordsIn, endIn, lastIn}};
+ghost use Rattle.p5_listing.specs.Mirror.{{entryAt}};
 
 // How many nodes there are; as a node's number, none.
 pub const COUNT: usize = {len(numbers)};
 
 pub const ROOT: usize = 0;
 
+// The node's entry, 0 for none.
 pub fn entry(e: usize) -> u32
-    requires {{ ⌜ e < nodeCount ⌝ }}
     ensures {{ λ r. ⌜ r ≡ entryAt e ⌝ }}
 {{
     match e {{
@@ -201,52 +200,23 @@ pub fn entry(e: usize) -> u32
         _ => 0,
     }}
 }}
-
-// What an entry says of its node: the letter, the first node below, how many words go through it, 1 where a word ends there,
-// and 1 where none is beside it.
-pub fn letter(t: u32) -> u32
-    ensures {{ λ r. ⌜ r ≡ letterIn t ⌝ }}
-{{
-    t / {LETTER}
-}}
-
-pub fn down(t: u32) -> usize
-    ensures {{ λ r. ⌜ r ≡ downIn t ⌝ }}
-{{
-    (t / {DOWN} % {LETTER // DOWN}) as usize
-}}
-
-pub fn words(t: u32) -> usize
-    ensures {{ λ r. ⌜ r ≡ wordsIn t ⌝ }}
-{{
-    (t / {WORDS} % {DOWN // WORDS}) as usize
-}}
-
-pub fn end(t: u32) -> usize
-    ensures {{ λ r. ⌜ r ≡ endIn t ⌝ }}
-{{
-    (t / {END} % 2) as usize
-}}
-
-pub fn last(t: u32) -> u32
-    ensures {{ λ r. ⌜ r ≡ lastIn t ⌝ }}
-{{
-    t % 2
-}}
 """
 
 
 def proof(numbers):
     arms = "\n".join(f"    (λ c. arm entryAt {n} _ {i} (c .match .keys{i + 1}) refl)" for i, n in enumerate(numbers))
     return f"""-- Each arm answers its number of the list. Written by tools/nodes.py.
-use Prim.Native.Nat.{{ℕ, _<_}}
+use Prim.Native.Nat.{{ℕ, _≤_, _<_}}
 use mathlib.Core.Path.{{_≡_, refl, sym, ap, _∙_}}
 use mathlib.Core.Bool.{{Bool, true, false}}
 use mathlib.Core.List.{{List, [], _∷_, map}}
+use mathlib.Core.Logic.{{⊎-elim}}
 use native.Mathlib.Omega.{{arith}}
 use lib.Dec.{{T}}
+use lib.ListN.{{List·getD-eq-default}}
 use Rattle.p0_choice.specs.Choice.{{pick, each, from}}
 use Rattle.p0_choice.proofs.Arms.{{arm, amongAny, missed, Missed}}
+use Rattle.p0_choice.proofs.Numbers.{{below-or-not}}
 use Rattle.p0_choice.proofs.Tables.{{each-count}}
 use Rattle.p5_listing.specs.Mirror.{{nodeCount, entries, entryAt}}
 use Rattle.p5_nodes.proofs.entry.Statement.{{statement}}
@@ -262,12 +232,19 @@ test : T (each isArm (from nodeCount 0))
 unfolding isArm arms
 test = tt
 
-never : (N : Type 0) (x : ℕ) → Missed N arms x → x < nodeCount → ⊥
+past : (N : Type 0) (x : ℕ) → Missed N arms x → nodeCount ≤ x
 unfolding isArm
-never N x m h =
+past N x m =
+    ⊎-elim
+    (λ (h : x < nodeCount).
     let z : _≡_ {{A = Bool}} true false = sym (each-count isArm nodeCount 0 test x (omega arith) h) ∙ missed N arms x m in
     let y : _≡_ {{A = ℕ}} 1 0 = ap (λ (b : Bool). pick b 1 0) z in
-    absurd (omega arith)
+    absurd (omega arith))
+    (λ (h : nodeCount ≤ x). h) (below-or-not x nodeCount)
+
+none-there : (e : ℕ) → nodeCount ≤ e → 0 ≡ entryAt e
+unfolding entryAt entries
+none-there e h = sym (List·getD-eq-default entries 0 h)
 
 pub entry-spec : {{M : Type 1}} → statement M
 unfolding entryAt entries arms
@@ -275,7 +252,7 @@ entry-spec =
     tie.close
     (tie.spec
 {arms}
-    (λ c. absurd (never _ _ (c .match .rest) (c .before .pre))))
+    (λ c. none-there _ (past _ _ (c .match .rest))))
 """
 
 

@@ -83,12 +83,13 @@ module _ {P : Word → Type 0} {t : Trie} (l : Tries.Lists P t) (o : List ℕ) (
         → out ≡ output (writes w) o → Answers (NextMeans P v) o r out
     follows h w q e f = (writes w, next w p (rw q (Tries.follows l v h)) refl, e, f)
 
-module _ (w : Word) (o : List ℕ) where
-  pub too-long : letterLimit < length w → (r : Answer) (out : List ℕ) → r ≡ Refused Long → out ≡ o → Answers (NextMeans Listed w) o r out
+-- ---- next_word, after a word that is not permitted
+module _ {P : Word → Type 0} (w : Word) (o : List ℕ) where
+  pub too-long : letterLimit < length w → (r : Answer) (out : List ℕ) → r ≡ Refused Long → out ≡ o → Answers (NextMeans P w) o r out
   too-long h r out e f = (refuses Long, long h refl, e ∙ refuses-answer _ _ refl (length o), f ∙ refuses-output _ _ refl o)
 
   module _ (b : Bool) (l : length w ≤ letterLimit) (e : b ≡ allLetters w) where
-    pub not-letters : b ≡ false → (r : Answer) (out : List ℕ) → r ≡ Refused Foreign → out ≡ o → Answers (NextMeans Listed w) o r out
+    pub not-letters : b ≡ false → (r : Answer) (out : List ℕ) → r ≡ Refused Foreign → out ≡ o → Answers (NextMeans P w) o r out
     not-letters n r out d f = (
       refuses Foreign,
       foreign (omega arith) (sym e ∙ n) refl,

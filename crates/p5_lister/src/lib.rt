@@ -16,7 +16,7 @@ ghost use Rattle.p5_trie.proofs.Tests.{depth};
 ghost use Rattle.p5_trie.proofs.Scan.{Passed, Halts};
 ghost use Rattle.p5_trie.proofs.Turn.{Turned};
 ghost use Rattle.p5_listing.specs.Listed.{Listed};
-ghost use Rattle.p5_listing.specs.Mirror.{nodeCount, entryAt, nodes};
+ghost use Rattle.p5_listing.specs.Mirror.{nodeCount, entryAt, letterIn, downIn, wordsIn, endIn, lastIn, nodes};
 ghost use Rattle.p4_spelling.specs.Verdict.{longestLength};
 ghost use Rattle.p5_listing.specs.Counts.{wordCount};
 ghost use Rattle.p0_refusals.specs.Answers.{Outcome, writes, answer, output};
@@ -31,8 +31,40 @@ const NO_LETTER: u32 = 4294967295;
 // No list has more words.
 const MANY: usize = 65536;
 
-// Where a scan stopped: the node or none, what is left of the number, and what the table has of the node.
-struct Place {
+// What an entry says of its node: the letter, the first node below, how many words go through it, 1 where a word ends there,
+// and 1 where none is beside it.
+fn letter_in(entry: u32) -> u32
+    ensures { λ r. ⌜ r ≡ letterIn entry ⌝ }
+{
+    entry / 2097152
+}
+
+fn down_in(entry: u32) -> usize
+    ensures { λ r. ⌜ r ≡ downIn entry ⌝ }
+{
+    (entry / 4096 % 512) as usize
+}
+
+fn words_in(entry: u32) -> usize
+    ensures { λ r. ⌜ r ≡ wordsIn entry ⌝ }
+{
+    (entry / 4 % 1024) as usize
+}
+
+fn end_in(entry: u32) -> usize
+    ensures { λ r. ⌜ r ≡ endIn entry ⌝ }
+{
+    (entry / 2 % 2) as usize
+}
+
+fn last_in(entry: u32) -> u32
+    ensures { λ r. ⌜ r ≡ lastIn entry ⌝ }
+{
+    entry % 2
+}
+
+// Where a scan stopped: the node or none, what is left of the number, and the node's entry.
+struct Halt {
     node: usize,
     left: usize,
     entry: u32,
@@ -40,7 +72,7 @@ struct Place {
 
 // The first node from `from` on, in its row, whose letter is y or more or through which more than `left` words go. Of all
 // functions this one reads the table.
-fn scan(from: usize, y: u32, most: usize) -> Place
+fn scan(from: usize, y: u32, most: usize) -> Halt
     requires { ⌜ from ≤ nodeCount ⌝ }
     ensures { λ r. ⌜ Passed nodes from y most (r .node) (r .left) ⌝ }
     ensures { λ r. ⌜ (r .node < nodeCount → (r .entry ≡ entryAt (r .node)) × Halts nodes y (r .node) (r .left)) ⌝ }
@@ -49,16 +81,16 @@ fn scan(from: usize, y: u32, most: usize) -> Place
     let mut left = most;
     while node < table::COUNT {
         let entry = table::entry(node);
-        let through = table::words(entry);
-        if y <= table::letter(entry) {
-            return Place { node, left, entry };
+        let through = words_in(entry);
+        if y <= letter_in(entry) {
+            return Halt { node, left, entry };
         }
         if left < through {
-            return Place { node, left, entry };
+            return Halt { node, left, entry };
         }
         left -= through;
-        if table::last(entry) == 1 {
-            return Place {
+        if last_in(entry) == 1 {
+            return Halt {
                 node: table::COUNT,
                 left,
                 entry,
@@ -66,7 +98,7 @@ fn scan(from: usize, y: u32, most: usize) -> Place
         }
         node += 1;
     }
-    Place {
+    Halt {
         node,
         left,
         entry: 0,
@@ -89,17 +121,17 @@ fn spell(from: usize, kept: [u32; LONGEST], at: usize, n: usize) -> Spelled
     let mut node = from;
     let mut left = n;
     while node < table::COUNT {
-        let place = scan(node, NO_LETTER, left);
-        left = place.left;
-        let entry = place.entry;
-        out[len] = table::letter(entry);
+        let halt = scan(node, NO_LETTER, left);
+        left = halt.left;
+        let entry = halt.entry;
+        out[len] = letter_in(entry);
         len += 1;
-        let ends = table::end(entry);
+        let ends = end_in(entry);
         if left < ends {
             return Spelled { len, letters: out };
         }
         left -= ends;
-        node = table::down(entry);
+        node = down_in(entry);
     }
     Spelled { len, letters: out }
 }
@@ -121,22 +153,22 @@ fn turn(root: usize, word: &[u32]) -> Parting
     let mut at: usize = 0;
     while i < word.len() {
         let y = word[i];
-        let place = scan(node, y, MANY);
-        let there = place.node;
+        let halt = scan(node, y, MANY);
+        let there = halt.node;
         if there == table::COUNT {
             return Parting { node: back, at };
         }
-        let entry = place.entry;
-        if y < table::letter(entry) {
+        let entry = halt.entry;
+        if y < letter_in(entry) {
             return Parting { node: there, at: i };
         }
-        if table::last(entry) == 1 {
-            node = table::down(entry);
+        if last_in(entry) == 1 {
+            node = down_in(entry);
             i += 1;
         } else {
             back = there + 1;
             at = i;
-            node = table::down(entry);
+            node = down_in(entry);
             i += 1;
         }
     }
@@ -218,9 +250,9 @@ pub fn next_word(word: &[u32], out: &mut [u32]) -> Answer
     if !letters::all_letters(word) {
         return Answer::Refused(Refusal::Foreign);
     }
-    let place = turn(table::ROOT, word);
-    let node = place.node;
-    let at = place.at;
+    let parting = turn(table::ROOT, word);
+    let node = parting.node;
+    let at = parting.at;
     if node == table::COUNT {
         return Answer::Refused(Refusal::NoWord);
     }

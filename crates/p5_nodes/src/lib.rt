@@ -1,16 +1,15 @@
 // The table of nodes that specs/Mirror.antt of p5_listing defines, as arms that the compiler makes a constant table of; one
 // function alone calls it, so that the table is read where it is used. Written by tools/nodes.py.
-ghost use Prim.Native.Nat.{_<_};
 ghost use mathlib.Core.Path.{_≡_};
-ghost use Rattle.p5_listing.specs.Mirror.{nodeCount, entryAt, letterIn, downIn, wordsIn, endIn, lastIn};
+ghost use Rattle.p5_listing.specs.Mirror.{entryAt};
 
 // How many nodes there are; as a node's number, none.
 pub const COUNT: usize = 335;
 
 pub const ROOT: usize = 0;
 
+// The node's entry, 0 for none.
 pub fn entry(e: usize) -> u32
-    requires { ⌜ e < nodeCount ⌝ }
     ensures { λ r. ⌜ r ≡ entryAt e ⌝ }
 {
     match e {
@@ -351,36 +350,4 @@ pub fn entry(e: usize) -> u32
         334 => 217378823,
         _ => 0,
     }
-}
-
-// What an entry says of its node: the letter, the first node below, how many words go through it, 1 where a word ends there,
-// and 1 where none is beside it.
-pub fn letter(t: u32) -> u32
-    ensures { λ r. ⌜ r ≡ letterIn t ⌝ }
-{
-    t / 2097152
-}
-
-pub fn down(t: u32) -> usize
-    ensures { λ r. ⌜ r ≡ downIn t ⌝ }
-{
-    (t / 4096 % 512) as usize
-}
-
-pub fn words(t: u32) -> usize
-    ensures { λ r. ⌜ r ≡ wordsIn t ⌝ }
-{
-    (t / 4 % 1024) as usize
-}
-
-pub fn end(t: u32) -> usize
-    ensures { λ r. ⌜ r ≡ endIn t ⌝ }
-{
-    (t / 2 % 2) as usize
-}
-
-pub fn last(t: u32) -> u32
-    ensures { λ r. ⌜ r ≡ lastIn t ⌝ }
-{
-    t % 2
 }

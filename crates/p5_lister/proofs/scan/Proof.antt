@@ -22,40 +22,43 @@ loop-holds c = begin nodes (c .args .from) (c .args .y) (c .args .most) (rw coun
 
 returns : tie.Need-returns Inv-loop μ-loop
 returns c =
-    let d : tie.After-letter Inv-loop μ-loop = c .before in (
+    let d : tie.After-letter-in Inv-loop μ-loop = c .before in (
       d .before .before .before .before .loop .inv,
       λ h. (
         d .before .before .entry .ensures,
-        halting _ _ (d .before .before .entry .ensures) _ _ _ _ (d .letter .ensures) (d .before .words .ensures) (inl (c .if1 .taken)),
+        halting _ _ (d .before .before .entry .ensures) _ _ _ _ (d .letter-in .ensures) (d .before .words-in .ensures)
+            (inl (c .if1 .taken)),
       ),
     )
 
 returns-2 : tie.Need-returns-2 Inv-loop μ-loop
 returns-2 c =
-    let d : tie.After-letter Inv-loop μ-loop = c .before .before in (
+    let d : tie.After-letter-in Inv-loop μ-loop = c .before .before in (
       d .before .before .before .before .loop .inv,
       λ h. (
         d .before .before .entry .ensures,
-        halting _ _ (d .before .before .entry .ensures) _ _ _ _ (d .letter .ensures) (d .before .words .ensures) (inr (c .if2 .taken)),
+        halting _ _ (d .before .before .entry .ensures) _ _ _ _ (d .letter-in .ensures) (d .before .words-in .ensures)
+            (inr (c .if2 .taken)),
       ),
     )
 
 returns-3 : tie.Need-returns-3 Inv-loop μ-loop
 returns-3 c =
-    let d : tie.After-letter Inv-loop μ-loop = c .before .before .before .before in (
-      passed-last _ _ (d .before .before .entry .ensures) _ _ _ _ (d .letter .ensures) (d .before .words .ensures) _ _
+    let d : tie.After-letter-in Inv-loop μ-loop = c .before .before .before .before in (
+      passed-last _ _ (d .before .before .entry .ensures) _ _ _ _ (d .letter-in .ensures) (d .before .words-in .ensures) _ _
           (d .before .before .before .before .loop .inv) (d .before .before .before .loop-test .taken)
           (omega (arith, c .before .before .before .if1 .left)) (c .before .before .if2 .left)
-          (omega (arith, c .if3 .taken, c .before .last .ensures)),
+          (omega (arith, c .if3 .taken, c .before .last-in .ensures)),
       λ h. absurd (omega arith),
     )
 
 loop-again : tie.Need-loop-again Inv-loop μ-loop
 loop-again c =
-    let d : tie.After-letter Inv-loop μ-loop = c .before .before .before .before in
-    passed-on _ _ (d .before .before .entry .ensures) _ _ _ _ (d .letter .ensures) (d .before .words .ensures) _ _
+    let d : tie.After-letter-in Inv-loop μ-loop = c .before .before .before .before in
+    passed-on _ _ (d .before .before .entry .ensures) _ _ _ _ (d .letter-in .ensures) (d .before .words-in .ensures) _ _
     (d .before .before .before .before .loop .inv) (d .before .before .before .loop-test .taken)
-    (omega (arith, c .before .before .before .if1 .left)) (c .before .before .if2 .left) (λ z. c .if3 .left (c .before .last .ensures ∙ z))
+    (omega (arith, c .before .before .before .if1 .left)) (c .before .before .if2 .left)
+    (λ z. c .if3 .left (c .before .last-in .ensures ∙ z))
 
 returns-4 : tie.Need-returns-4 Inv-loop μ-loop
 returns-4 c = (c .before .loop .inv, λ h. absurd (omega (arith, c .loop-test .left)))

@@ -46,19 +46,19 @@ module _ (d : tie.After-scan Inv-loop μ-loop) where
 
 returns : tie.Need-returns Inv-loop μ-loop
 returns c =
-    let x : tie.After-letter Inv-loop μ-loop = c .before .before in
+    let x : tie.After-letter-in Inv-loop μ-loop = c .before .before in
     let d : tie.After-scan Inv-loop μ-loop = x .before in (
       omega (arith, room d),
-      ended (d .before .before .loop .inv) sound (d .scan .ensures .0) _ _ (x .letter .ensures ∙ letter-is _ _ (read d))
-          (c .before .end .ensures ∙ end-is _ _ (read d)) (c .if1 .taken),
+      ended (d .before .before .loop .inv) sound (d .scan .ensures .0) _ _ (x .letter-in .ensures ∙ letter-is _ _ (read d))
+          (c .before .end-in .ensures ∙ end-is _ _ (read d)) (c .if1 .taken),
     )
 
 loop-again : tie.Need-loop-again Inv-loop μ-loop
 loop-again c =
-    let x : tie.After-letter Inv-loop μ-loop = c .before .before .before in
+    let x : tie.After-letter-in Inv-loop μ-loop = c .before .before .before in
     let d : tie.After-scan Inv-loop μ-loop = x .before in
-    went-down (d .before .before .loop .inv) sound (d .scan .ensures .0) _ _ (x .letter .ensures ∙ letter-is _ _ (read d))
-    (c .before .before .end .ensures ∙ end-is _ _ (read d)) _ (c .down .ensures ∙ down-is _ _ (read d))
+    went-down (d .before .before .loop .inv) sound (d .scan .ensures .0) _ _ (x .letter-in .ensures ∙ letter-is _ _ (read d))
+    (c .before .before .end-in .ensures ∙ end-is _ _ (read d)) _ (c .down-in .ensures ∙ down-is _ _ (read d))
     (fewer _ _ (there d) (d .scan .ensures .1 (there d) .1)) (c .before .if1 .left)
 
 returns-2 : tie.Need-returns-2 Inv-loop μ-loop

@@ -45,28 +45,28 @@ returns-2 c =
     let o : tie.Else1 Inv-loop μ-loop = c .before .before in
     let d : tie.After-scan Inv-loop μ-loop = o .before in
     stopped-there (d .before .before .before .loop .inv) sound (d .before .before .loop-test .taken) (d .scan .ensures .0)
-    (rw count-is (there o)) (rw (← letter-is _ _ (read o), ← c .before .letter .ensures) (c .if2 .taken))
+    (rw count-is (there o)) (rw (← letter-is _ _ (read o), ← c .before .letter-in .ensures) (c .if2 .taken))
 
 loop-again : tie.Need-loop-again Inv-loop μ-loop
 loop-again c =
-    let x : tie.After-letter Inv-loop μ-loop = c .before .before .before .before in
+    let x : tie.After-letter-in Inv-loop μ-loop = c .before .before .before .before in
     let o : tie.Else1 Inv-loop μ-loop = x .before in
     let d : tie.After-scan Inv-loop μ-loop = o .before in
     going (d .before .before .before .loop .inv) sound (d .before .before .loop-test .taken) (d .scan .ensures .0) (rw count-is (there o))
-    (d .scan .ensures .1 (there o) .1) (rw (← letter-is _ _ (read o), ← x .letter .ensures) (c .before .before .before .if2 .left)) _
-    (c .down .ensures ∙ down-is _ _ (read o))
-    (omega (arith, count-is, next-none _ _ (read o) (sym (c .before .before .last .ensures) ∙ c .before .if3 .taken)))
+    (d .scan .ensures .1 (there o) .1) (rw (← letter-is _ _ (read o), ← x .letter-in .ensures) (c .before .before .before .if2 .left)) _
+    (c .down-in .ensures ∙ down-is _ _ (read o))
+    (omega (arith, count-is, next-none _ _ (read o) (sym (c .before .before .last-in .ensures) ∙ c .before .if3 .taken)))
 
 loop-again-2 : tie.Need-loop-again-2 Inv-loop μ-loop
 loop-again-2 c =
-    let x : tie.After-letter Inv-loop μ-loop = c .before .before .before .before in
+    let x : tie.After-letter-in Inv-loop μ-loop = c .before .before .before .before in
     let o : tie.Else1 Inv-loop μ-loop = x .before in
     let d : tie.After-scan Inv-loop μ-loop = o .before in
     keeping (d .before .before .before .loop .inv) sound (d .before .before .loop-test .taken) (d .scan .ensures .0) (rw count-is (there o))
-    (d .scan .ensures .1 (there o) .1) (rw (← letter-is _ _ (read o), ← x .letter .ensures) (c .before .before .before .if2 .left)) _
-    (c .down2 .ensures ∙ down-is _ _ (read o)) _
-    (next-on _ _ (read o) (λ z. c .before .if3 .left (c .before .before .last .ensures ∙ z)))
-    (rw count-is (next-some _ _ (read o) (λ z. c .before .if3 .left (c .before .before .last .ensures ∙ z)) (there o)))
+    (d .scan .ensures .1 (there o) .1) (rw (← letter-is _ _ (read o), ← x .letter-in .ensures) (c .before .before .before .if2 .left)) _
+    (c .down-in2 .ensures ∙ down-is _ _ (read o)) _
+    (next-on _ _ (read o) (λ z. c .before .if3 .left (c .before .before .last-in .ensures ∙ z)))
+    (rw count-is (next-some _ _ (read o) (λ z. c .before .if3 .left (c .before .before .last-in .ensures ∙ z)) (there o)))
 
 returns-3 : tie.Need-returns-3 Inv-loop μ-loop
 returns-3 c = ended-back (c .before .before .loop .inv) sound (omega (arith, c .if4 .taken, count-is))
