@@ -1,5 +1,6 @@
 pub mod Reading
 pub mod Tests
+pub mod Zeros
 pub mod Sound
 pub mod Writing
 pub mod Round

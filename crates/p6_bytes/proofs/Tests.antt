@@ -6,8 +6,7 @@ use mathlib.Core.List.{List}
 use mathlib.Core.Logic.{inl}
 use native.Mathlib.Omega.{arith}
 use lib.Dec.{eqb, ltb}
-use lib.ListN.{length}
-use borrow.Author.Tests.{eq-eqb, ne-eqb, eqb-true, eqb-false, lt-ltb, le-ltb, le-leb, lt-leb, not-true, not-false}
+use borrow.Author.Tests.{ne-eqb, eqb-true, eqb-false, lt-ltb, le-ltb, le-leb, lt-leb, not-true, not-false}
 use Rattle.p0_choice.specs.Choice.{pick, each, from as numbers}
 use Rattle.p0_choice.proofs.Tests.{are-both}
 use Rattle.p1_letters.specs.Alphabet.{inAlphabet}
@@ -15,7 +14,7 @@ use Rattle.p3_cells.specs.Cells.{isCell}
 use Rattle.p3_cells.specs.declared.Cell.{Cell}
 use Rattle.p3_cells.proofs.Soundness.{is-cell}
 use Rattle.p6_bytes.specs.Bytes.{byteAt, cellAt, start, spellsCell, isZero, reservedZero}
-use Rattle.p6_bytes.specs.Mirror.{longAt, cellFits, cellsFit, zeroFrom}
+use Rattle.p6_bytes.specs.Mirror.{longAt, cellFits, cellsFit}
 
 turn : (p : ℕ → Bool) (n i : ℕ) → i < n → each p (numbers (n - i) i) ≡ pick (p i) (each p (numbers (n - (i + 1)) (i + 1))) false
 turn p n i h =
@@ -104,37 +103,3 @@ module _ (b : List ℕ) (n i : ℕ) (e : cellsFit b n ≡ each (cellFits b) (num
 
   pub fit-done : n ≤ i → true ≡ cellsFit b n
   fit-done h = sym (e ∙ end (cellFits b) n i h)
-
--- ---- the bytes past them
-pub greater-right : (x y : ℕ) → x < y → eqb y 0 ≡ pick (eqb x 0) (eqb y 0) false
-greater-right x y h = go (eqb x 0)
-  where
-    go : (t : Bool) → eqb y 0 ≡ pick t (eqb y 0) false
-    go true = refl
-    go false = ne-eqb y 0 (λ (e : y ≡ 0). omega arith)
-
-pub greater-left : (x y : ℕ) → y ≤ x → eqb x 0 ≡ pick (eqb x 0) (eqb y 0) false
-greater-left x y h = go (eqb x 0) refl
-  where
-    go : (t : Bool) → eqb x 0 ≡ t → t ≡ pick t (eqb y 0) false
-    go true e = let z = eqb-true x 0 e in sym (eq-eqb y 0 (omega arith))
-    go false e = refl
-
-regroup : (a z r : Bool) → pick a (pick z r false) false ≡ pick (pick a z false) r false
-regroup true z r = refl
-regroup false z r = refl
-
-pub zero-start : (b : List ℕ) (at : ℕ) → zeroFrom b at ≡ pick (eqb 0 0) (each (isZero b) (numbers (length b - at) at)) false
-unfolding zeroFrom
-zero-start b at = refl
-
-module _ (b : List ℕ) (at most i : ℕ) (e : zeroFrom b at ≡ pick (eqb most 0) (each (isZero b) (numbers (length b - i) i)) false) where
-  pub zero-on : (next v : ℕ) → i < length b → v ≡ byteAt b i → eqb next 0 ≡ pick (eqb most 0) (eqb v 0) false
-      → zeroFrom b at ≡ pick (eqb next 0) (each (isZero b) (numbers (length b - (i + 1)) (i + 1))) false
-  unfolding isZero
-  zero-on next v h p q =
-      e ∙ rw (turn (isZero b) (length b) i h, q, p)
-      (regroup (eqb most 0) (eqb (byteAt b i) 0) (each (isZero b) (numbers (length b - (i + 1)) (i + 1))))
-
-  pub zero-done : length b ≤ i → eqb most 0 ≡ zeroFrom b at
-  zero-done h = sym (e ∙ rw (end (isZero b) (length b) i h) (whole (eqb most 0)))

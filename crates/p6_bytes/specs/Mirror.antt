@@ -17,9 +17,13 @@ cellFits b i = pick (spellsCell b i) (isCell (cellAt b (start i))) false
 unfoldable pub cellsFit : List ℕ → ℕ → Bool
 cellsFit b n = each (cellFits b) (from n 0)
 
+-- the n bytes from a place on are 0
+unfoldable pub zeroIn : List ℕ → ℕ → ℕ → Bool
+zeroIn b n i = each (isZero b) (from n i)
+
 -- each byte from a place on is 0
 unfoldable pub zeroFrom : List ℕ → ℕ → Bool
-zeroFrom b i = each (isZero b) (from (length b - i) i)
+zeroFrom b i = zeroIn b (length b - i) i
 
 -- eight bytes as one number, low byte first
 unfoldable pub longAt : List ℕ → ℕ → ℕ

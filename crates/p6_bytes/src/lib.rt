@@ -9,7 +9,7 @@ ghost use Rattle.p0_choice.specs.Choice.{pick};
 ghost use Rattle.p3_cells.specs.Cells.{limit, blank, blanks, used, holding};
 ghost use Rattle.p6_bytes.specs.Bytes.{head, size, methodByte, modeByte, flagByte, cellBytes, cellsBytes, zeros, bytesOf, cellAt};
 ghost use Rattle.p6_bytes.specs.Bytes.{start, methodOf, modeOf, cellsAt, compositionOf, reservedZero, bytesSound};
-ghost use Rattle.p6_bytes.specs.Mirror.{longAt, cellFits, cellsFit, zeroFrom, stored};
+ghost use Rattle.p6_bytes.specs.Mirror.{longAt, cellFits, cellsFit, zeroIn, zeroFrom, stored};
 use p2_input_method::InputMethod;
 use p3_cells as cells;
 use p3_cells::Cell;
@@ -22,6 +22,9 @@ pub const SIZE: usize = HEAD + 8 * cells::LIMIT;
 
 // The bytes of the head that say something; the others are reserved.
 const KNOWN: usize = 3;
+
+// How many bytes are tested for 0 at once.
+const BLOCK: usize = 128;
 
 // ---- reading
 
@@ -77,29 +80,6 @@ fn mode_of(x: u8) -> Mode
 
 // ---- soundness
 
-// The greater of two bytes. A loop of it has no way out, so that the search for a byte that is not 0 is done by vectors.
-fn greater(a: u8, b: u8) -> u8
-    ensures { λ r. ⌜ eqb r 0 ≡ pick (eqb a 0) (eqb b 0) false ⌝ }
-{
-    if a < b {
-        return b;
-    }
-    a
-}
-
-fn zero_from(b: &[u8], at: usize) -> bool
-    requires { ⌜ at ≤ length (now b) ⌝ }
-    ensures { λ r. ⌜ r ≡ zeroFrom (now (b .entry)) at ⌝ }
-{
-    let mut most: u8 = 0;
-    let mut i = at;
-    while i < b.len() {
-        most = greater(most, b[i]);
-        i += 1;
-    }
-    most == 0
-}
-
 // Eight bytes as one number: LLVM makes one load of it.
 fn eight(b0: u8, b1: u8, b2: u8, b3: u8, b4: u8, b5: u8, b6: u8, b7: u8) -> u64
     ensures { λ r. ⌜ r ≡ b0 + b1 * 256 + b2 * 65536 + b3 * 16777216 + b4 * 4294967296 + b5 * 1099511627776 + b6 * 281474976710656
@@ -131,6 +111,65 @@ fn long_at(b: &[u8], at: usize) -> u64
         b[at + 6],
         b[at + 7],
     )
+}
+
+// 0 where both are. A loop of it has no way out, so that a block is searched by vectors.
+fn either(a: u64, b: u64) -> u64
+    ensures { λ r. ⌜ eqb r 0 ≡ pick (eqb a 0) (eqb b 0) false ⌝ }
+{
+    a | b
+}
+
+// 0 where the 128 bytes from a place on are.
+fn block(b: &[u8], at: usize) -> u64
+    requires { ⌜ at + 128 ≤ length (now b) ⌝ }
+    ensures { λ r. ⌜ eqb r 0 ≡ zeroIn (now (b .entry)) 128 at ⌝ }
+{
+    let mut t: u64 = 0;
+    let mut j: usize = 0;
+    while j < 16 {
+        let w = long_at(b, at + 8 * j);
+        t = either(t, w);
+        j += 1;
+    }
+    t
+}
+
+// Byte by byte.
+fn few_zero(b: &[u8], at: usize) -> bool
+    requires { ⌜ at ≤ length (now b) ⌝ }
+    ensures { λ r. ⌜ r ≡ zeroFrom (now (b .entry)) at ⌝ }
+{
+    let mut i = at;
+    while i < b.len() {
+        if 0 < b[i] {
+            return false;
+        }
+        i += 1;
+    }
+    true
+}
+
+// By blocks. The last one is taken from the end, over bytes that were seen.
+fn zero_from(b: &[u8], at: usize) -> bool
+    requires { ⌜ at ≤ length (now b) ⌝ }
+    ensures { λ r. ⌜ r ≡ zeroFrom (now (b .entry)) at ⌝ }
+{
+    let n = b.len();
+    if n - at < BLOCK {
+        return few_zero(b, at);
+    }
+    let last = n - BLOCK;
+    let mut i = at;
+    while i < last {
+        let w = block(b, i);
+        if 0 < w {
+            return false;
+        }
+        i += BLOCK;
+    }
+    let w = block(b, last);
+    w == 0
 }
 
 // The bytes of the head from KNOWN on.
