@@ -108,8 +108,26 @@ block-on b at j t w r p q e = let d : 8 * (j + 1) ≡ 8 * j + 8 = omega arith in
 pub block-done : (b : List ℕ) (at j t : ℕ) → eqb t 0 ≡ zeroIn b (8 * j) at → j ≤ 16 → 16 ≤ j → eqb t 0 ≡ zeroIn b 128 at
 block-done b at j t p l h = let d : 8 * j ≡ 128 = omega arith in p ∙ ap (λ (x : ℕ). zeroIn b x at) d
 
+pub greater-right : (x y : ℕ) → x < y → eqb y 0 ≡ pick (eqb x 0) (eqb y 0) false
+greater-right x y h = go (eqb x 0)
+  where
+    go : (t : Bool) → eqb y 0 ≡ pick t (eqb y 0) false
+    go true = refl
+    go false = ne-eqb y 0 (λ (e : y ≡ 0). omega arith)
+
+pub greater-left : (x y : ℕ) → y ≤ x → eqb x 0 ≡ pick (eqb x 0) (eqb y 0) false
+greater-left x y h = go (eqb x 0) refl
+  where
+    go : (t : Bool) → eqb x 0 ≡ t → t ≡ pick t (eqb y 0) false
+    go true e = let z = eqb-true x 0 e in sym (eq-eqb y 0 (omega arith))
+    go false e = refl
+
+regroup : (a z r : Bool) → pick a (pick z r false) false ≡ pick (pick a z false) r false
+regroup true z r = refl
+regroup false z r = refl
+
 module _ (b : List ℕ) (at : ℕ) where
-  pub few-start : zeroFrom b at ≡ zeroIn b (length b - at) at
+  pub few-start : zeroFrom b at ≡ pick (eqb 0 0) (zeroIn b (length b - at) at) false
   unfolding zeroFrom
   few-start = refl
 
@@ -118,16 +136,15 @@ module _ (b : List ℕ) (at : ℕ) where
       let d : length b - i ≡ 1 + (length b - (i + 1)) = omega arith in
       rw (d, in-split b 1 (length b - (i + 1)) i, one-byte b i) refl
 
-  pub few-bad : (i v : ℕ) → zeroFrom b at ≡ zeroIn b (length b - i) i → i < length b → v ≡ byteAt b i → 0 < v → false ≡ zeroFrom b at
-  few-bad i v e h p n = rw (e, few-turn i h, ← p, ne-eqb v 0 (λ (z : v ≡ 0). omega arith)) refl
+  module _ (most i : ℕ) (e : zeroFrom b at ≡ pick (eqb most 0) (zeroIn b (length b - i) i) false) where
+    pub few-on : (next v : ℕ) → i < length b → v ≡ byteAt b i → eqb next 0 ≡ pick (eqb most 0) (eqb v 0) false
+        → zeroFrom b at ≡ pick (eqb next 0) (zeroIn b (length b - (i + 1)) (i + 1)) false
+    few-on next v h p q =
+        e ∙ rw (few-turn i h, q, p) (regroup (eqb most 0) (eqb (byteAt b i) 0) (zeroIn b (length b - (i + 1)) (i + 1)))
 
-  pub few-on : (i v : ℕ) → zeroFrom b at ≡ zeroIn b (length b - i) i → i < length b → v ≡ byteAt b i → v ≤ 0
-      → zeroFrom b at ≡ zeroIn b (length b - (i + 1)) (i + 1)
-  few-on i v e h p n = rw (e, few-turn i h, ← p, eq-eqb v 0 (omega arith)) refl
-
-  pub few-done : (i : ℕ) → zeroFrom b at ≡ zeroIn b (length b - i) i → length b ≤ i → true ≡ zeroFrom b at
-  unfolding zeroIn
-  few-done i e h = let d : length b - i ≡ 0 = omega arith in rw (e, d) refl
+    pub few-done : length b ≤ i → eqb most 0 ≡ zeroFrom b at
+    unfolding zeroIn
+    few-done h = let d : length b - i ≡ 0 = omega arith in sym (e ∙ rw d (whole (eqb most 0)))
 
   pub from-start : zeroIn b (at - at) at ≡ true
   unfolding zeroIn

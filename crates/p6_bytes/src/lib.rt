@@ -113,7 +113,7 @@ fn long_at(b: &[u8], at: usize) -> u64
     )
 }
 
-// 0 where both are. A loop of it has no way out, so that a block is searched by vectors.
+// 0 where both are. A loop of it, or of `greater`, has no way out, so that the search is done by vectors.
 fn either(a: u64, b: u64) -> u64
     ensures { λ r. ⌜ eqb r 0 ≡ pick (eqb a 0) (eqb b 0) false ⌝ }
 {
@@ -135,19 +135,27 @@ fn block(b: &[u8], at: usize) -> u64
     t
 }
 
-// Byte by byte.
+// The greater of two bytes, by which a few bytes are searched.
+fn greater(a: u8, b: u8) -> u8
+    ensures { λ r. ⌜ eqb r 0 ≡ pick (eqb a 0) (eqb b 0) false ⌝ }
+{
+    if a < b {
+        return b;
+    }
+    a
+}
+
 fn few_zero(b: &[u8], at: usize) -> bool
     requires { ⌜ at ≤ length (now b) ⌝ }
     ensures { λ r. ⌜ r ≡ zeroFrom (now (b .entry)) at ⌝ }
 {
+    let mut most: u8 = 0;
     let mut i = at;
     while i < b.len() {
-        if 0 < b[i] {
-            return false;
-        }
+        most = greater(most, b[i]);
         i += 1;
     }
-    true
+    most == 0
 }
 
 // By blocks. The last one is taken from the end, over bytes that were seen.
