@@ -11,6 +11,9 @@ FN = re.compile(r'^[ \t]*(?P<pub>pub )?(?P<ext>extern "C" )?fn (?P<name>\w+)', r
 # .. up to its clauses or its body
 SIGNATURE = re.compile(r"(?:(?!\s(?:requires|ensures)\b)[^{])*")
 CLAUSE = re.compile(r"\s*(requires|ensures)\b\s*\w*\s*\{")
+# a part of the answer, where a fact tells what it is: the result or a field of it, or what a `&mut` holds at the end
+PART = r"(?:now )?r(?: \.[\w«»]+)*|now \([\w«»]+ \.exit\)"
+TOLD = re.compile(rf"(?P<left>{PART}) ≡ .*|.* ≡ (?P<right>{PART})")
 # a declaration of antt: a name, perhaps after marks, at the start of a line or inside a module
 NAME = re.compile(r"^ *(?:unfoldable |abbrev |pub )*(?:data |record )?(?P<name>[^\s:()]+)(?: \([^)]*\))* :", re.M)
 
@@ -37,11 +40,25 @@ class Function:
         self.requires = requires
         self.ensures = ensures
 
+    def told(self):
+        """What the contract has an equation for: the result or parts of it, and what a `&mut` holds at the end. Also each name that
+        a fact binds, where another fact is about it."""
+        every = [fact for clause in self.ensures for fact in facts(clause)]
+        equations = [match["left"] or match["right"] for match in map(TOLD.fullmatch, every) if match]
+        others = [fact for fact in every if not TOLD.fullmatch(fact)]
+        bound = [match[1] for match in (re.fullmatch(r"(\w+) : .*", fact) for fact in others) if match]
+        about = " ".join(fact for fact in others if not re.match(r"\w+ : ", fact))
+        return set(equations) | {name for name in bound if re.search(rf"\b{name}\b", about)}
+
     def open_answers(self):
         """What of the answer has no equation: the result, or what a `&mut` holds at the end."""
-        said = " ".join(self.ensures)
-        found = [] if not self.result or re.search(r"(?<![\w.] )\b(?:now )?r(?: \.[\w«»]+)? ≡ ", said) else ["the result"]
-        return found + [name for name in self.lent if f"now ({name} .exit) ≡ " not in said]
+        told = self.told()
+        found = ["the result"] if self.result and not any(re.match(r"(?:now )?r\b", name) for name in told) else []
+        return found + [name for name in self.lent if f"now ({name} .exit)" not in told]
+
+    def weaker(self, other):
+        """Does it tell less than the other, or ask for more?"""
+        return bool(other.told() - self.told() or set(self.requires) - set(other.requires))
 
 
 def clauses(text, at):
@@ -59,11 +76,32 @@ def clauses(text, at):
         at = end
 
 
-def functions(crate, root=ROOT):
-    """All functions of a crate, in the order of its files."""
+def facts(clause):
+    """The facts of a clause, one for each side of an `×`, without the parentheses around it."""
+    found, todo = [], [re.sub(r"^λ \w+\. |⌜ | ⌝", "", clause)]
+    while todo:
+        text, depth, start, closed, parts = todo.pop(0).strip(), 0, 0, [], []
+        for at, letter in enumerate(text):
+            depth += {"(": 1, ")": -1}.get(letter, 0)
+            if depth == 0 and letter == ")":
+                closed.append(at)
+            if depth == 0 and letter == "×":
+                parts.append(text[start:at])
+                start = at + 1
+        if parts:
+            todo = parts + [text[start:]] + todo
+        elif text.startswith("(") and closed[0] == len(text) - 1:
+            todo.insert(0, text[1:-1])
+        else:
+            found.append(text)
+    return found
+
+
+def functions(crate, root=ROOT, changed=lambda path, text: text):
+    """All functions of a crate, in the order of its files; or those of what `changed` makes of each file."""
     found = []
     for path in sorted((root / "crates" / crate).glob("src/**/*.rt")):
-        text = re.sub(r"//[^\n]*", "", path.read_text(encoding="utf-8"))
+        text = re.sub(r"//[^\n]*", "", changed(path, path.read_text(encoding="utf-8")))
         for match in FN.finditer(text):
             signature = SIGNATURE.match(text, match.end())
             said = clauses(text, signature.end())
@@ -131,6 +169,18 @@ class Edit:
         self.below = sorted({where for where, *_ in self.replaced} - {crate})
         # The gate tries its own each time.
         self.stale = not gate and f"# tried {self.sum()}" not in lines
+
+    def changed(self, path, text):
+        """What it makes of a file of its crate."""
+        for where, file, old, new in self.replaced:
+            if path == ROOT / "crates" / where / (file or ""):
+                text = text.replace(old, new)
+        return text
+
+    def weaker(self, name):
+        """Does the contract of this function tell less with it, or ask for more?"""
+        before, after = ({found.name: found for found in functions(self.crate, changed=how)} for how in (lambda path, text: text, self.changed))
+        return name in before and name in after and after[name].weaker(before[name])
 
     def sum(self):
         """A sum of the text of the crate, and of those that the edit changes below it, and of what is replaced there."""

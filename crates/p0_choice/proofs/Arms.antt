@@ -40,7 +40,8 @@ pub arms : (f : ℕ → ℕ) (r x : ℕ) (ks : List ℕ) → OneOf ks x → T (e
 arms f r x [] h t = absurd h
 arms f r x (k ∷ []) h t = arm f r x k h (eqb-true r (f k) (pick-first (eqb r (f k)) true t))
 arms f r x (k ∷ (j ∷ ks)) h t =
-    ⊎-elim (λ e. arm f r x k e (eqb-true r (f k) (pick-first (eqb r (f k)) _ t))) (λ s. arms f r x (j ∷ ks) s (pick-second (eqb r (f k)) _ t)) h
+    ⊎-elim (λ e. arm f r x k e (eqb-true r (f k) (pick-first (eqb r (f k)) _ t)))
+    (λ s. arms f r x (j ∷ ks) s (pick-second (eqb r (f k)) _ t)) h
 
 -- ---- a test by membership in ys, whatever the order of its letters
 -- an arm whose keys are all in ys answers yes
@@ -74,4 +75,5 @@ not-yes false b f e = refl
 pub rest-among : (N : Type 0) (ys : List ℕ) (kss : List (List ℕ)) (x : ℕ) → Missed N kss x → T (each (λ (k : ℕ). amongAny k kss) ys)
     → false ≡ among x ys
 rest-among N ys kss x m t =
-    sym (not-yes (among x ys) (amongAny x kss) (λ (e : among x ys ≡ true). each-among (λ (k : ℕ). amongAny k kss) ys t x e) (missed N kss x m))
+    sym (not-yes (among x ys) (amongAny x kss)
+    (λ (e : among x ys ≡ true). each-among (λ (k : ℕ). amongAny k kss) ys t x e) (missed N kss x m))

@@ -3,3 +3,5 @@ pub mod Tables
 pub mod Arms
 pub mod Tests
 pub mod Numbers
+pub mod Only
+pub mod OnlyWalked

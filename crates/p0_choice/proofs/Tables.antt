@@ -6,7 +6,7 @@ use Prim.Native.Nat.{ℕ, zero, suc, _+_, _≤_, _<_}
 use native.Mathlib.Omega.{arith}
 use lib.Dec.{T, eqb, leb}
 use borrow.Author.Tests.{eqb-true, eqb-false, leb-true}
-use Rattle.p0_choice.specs.Choice.{pick, among, each, count, same}
+use Rattle.p0_choice.specs.Choice.{pick, among, each, from, same}
 
 pub pick-first : (a b : Bool) → T (pick a b false) → a ≡ true
 pick-first true b t = refl
@@ -30,7 +30,7 @@ no true f h = absurd (omega (arith, f refl))
 no false f h = refl
 
 -- what passes at n numbers from i on passes at each of them
-pub each-count : (p : ℕ → Bool) (n i : ℕ) → T (each p (count n i)) → (x : ℕ) → i ≤ x → x < i + n → p x ≡ true
+pub each-count : (p : ℕ → Bool) (n i : ℕ) → T (each p (from n i)) → (x : ℕ) → i ≤ x → x < i + n → p x ≡ true
 each-count p zero i t x l h = absurd (omega arith)
 each-count p (suc n) i t x l h =
     go (eqb i x) refl (λ (k : suc i ≤ x). each-count p n (suc i) (pick-second (p i) _ t) x k (omega arith))
@@ -58,7 +58,8 @@ pub among-left : (x : ℕ) (ys zs : List ℕ) → among x ys ≡ true → among 
 among-left x [] zs e = let z : _≡_ {A = ℕ} 0 1 = cc in absurd (omega arith)
 among-left x (y ∷ ys) zs e = go (eqb x y) e (λ q. among-left x ys zs q)
   where
-    go : (b : Bool) → pick b true (among x ys) ≡ true → (among x ys ≡ true → among x (ys ++ zs) ≡ true) → pick b true (among x (ys ++ zs)) ≡ true
+    go : (b : Bool) → pick b true (among x ys) ≡ true → (among x ys ≡ true → among x (ys ++ zs) ≡ true)
+        → pick b true (among x (ys ++ zs)) ≡ true
     go true q f = refl
     go false q f = f q
 
@@ -80,10 +81,10 @@ among-map f x (y ∷ ys) e = go (eqb x y) refl (eqb (f x) (f y)) refl e (λ q. a
     go true p false r q g = absurd (eqb-false (f x) (f y) r (ap f (eqb-true x y p)))
     go false p false r q g = g q
 
-pub among-count : (n i x : ℕ) → i ≤ x → x < i + n → among x (count n i) ≡ true
+pub among-count : (n i x : ℕ) → i ≤ x → x < i + n → among x (from n i) ≡ true
 among-count zero i x l h = absurd (omega arith)
 among-count (suc n) i x l h = go (eqb x i) refl (λ (k : suc i ≤ x). among-count n (suc i) x k (omega arith))
   where
-    go : (b : Bool) → eqb x i ≡ b → (suc i ≤ x → among x (count n (suc i)) ≡ true) → pick b true (among x (count n (suc i))) ≡ true
+    go : (b : Bool) → eqb x i ≡ b → (suc i ≤ x → among x (from n (suc i)) ≡ true) → pick b true (among x (from n (suc i))) ≡ true
     go true e f = refl
     go false e f = f (let d : (x ≡ i → ⊥) = eqb-false x i e in omega arith)

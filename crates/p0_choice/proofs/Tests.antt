@@ -7,7 +7,7 @@ use mathlib.Core.Logic.{_⊎_, inl, inr}
 use native.Mathlib.Omega.{arith}
 use lib.Dec.{T}
 use lib.ListN.{length, getD, take, set}
-use Rattle.p0_choice.specs.Choice.{pick, each, count}
+use Rattle.p0_choice.specs.Choice.{pick, each, from}
 
 pub both-are : (a b : Bool) → pick a b false ≡ true → (a ≡ true) × (b ≡ true)
 both-are true b e = (refl, e)
@@ -28,7 +28,7 @@ pub holds : (b : Bool) → b ≡ true → T b
 holds b e = rw e tt
 
 -- ---- each of n numbers from i on
-pub each-from : (p : ℕ → Bool) (n i : ℕ) → ((j : ℕ) → i ≤ j → j < i + n → p j ≡ true) → each p (count n i) ≡ true
+pub each-from : (p : ℕ → Bool) (n i : ℕ) → ((j : ℕ) → i ≤ j → j < i + n → p j ≡ true) → each p (from n i) ≡ true
 each-from p zero i f = refl
 each-from p (suc n) i f = rw (f i (omega arith) (omega arith)) (each-from p n (suc i) (λ j l h. f j (omega arith) (omega arith)))
 

@@ -20,9 +20,9 @@ each p [] = true
 each p (x ∷ xs) = pick (p x) (each p xs) false
 
 -- the n numbers from i on
-abbrev pub count : ℕ → ℕ → List ℕ
-count zero i = []
-count (suc n) i = i ∷ count n (suc i)
+abbrev pub from : ℕ → ℕ → List ℕ
+from zero i = []
+from (suc n) i = i ∷ from n (suc i)
 
 -- the two tests say the same
 abbrev pub same : Bool → Bool → Bool

@@ -1,4 +1,5 @@
--- Quoted text as code points, so that definitions have their letters as document 01 writes them.
+-- Quoted text as code points, so that definitions have their letters as document 01 writes them: `word "qu"` is a text's, and
+-- `code "u"` one character's.
 use Prim.Native.Nat.{ℕ}
 use Prim.Native.String.{String}
 use Prim.Native.String.{[] as end, _∷_ as _then_}
@@ -15,8 +16,12 @@ word (c then s) = code c ∷ word s
 -- the words of a row, as its blanks part them; w is what was read of the word at hand
 unfoldable pub wordsFrom : List ℕ → String → List (List ℕ)
 wordsFrom w end = w ∷ []
-wordsFrom w (c then s) = pick (eqb (code c) 32) (w ∷ wordsFrom [] s) (wordsFrom (w ++ (code c ∷ [])) s)
+wordsFrom w (c then s) = pick (eqb (code c) (code " ")) (w ∷ wordsFrom [] s) (wordsFrom (w ++ (code c ∷ [])) s)
 
 unfoldable pub words : String → List (List ℕ)
 unfolding wordsFrom
 words s = wordsFrom [] s
+
+-- U+000A, at which a line ends
+abbrev pub lineEnd : ℕ
+lineEnd = 0x0a

@@ -7,7 +7,8 @@ use lib.ListN.{length}
 use Rattle.p0_choice.proofs.Choices.{picks}
 use Rattle.p0_refusals.specs.declared.Refusal.{Refusal}
 use Rattle.p0_refusals.specs.declared.Refusal.the-variants.{Short}
-use Rattle.p0_refusals.specs.Answers.{Outcome, writes, refuses, content, counted, answer, onto, output}
+use Rattle.p0_refusals.specs.Answers.{Outcome, writes, refuses, content, answer, onto, output}
+use Rattle.p0_refusals.specs.Mirror.{counted}
 use Rattle.p0_refusals.specs.declared.Answer.{Answer}
 use Rattle.p0_refusals.specs.declared.Answer.the-variants.{Done, Refused}
 
@@ -39,31 +40,31 @@ module _ (w : Outcome) (xs : List ℕ) (q : w ≡ writes xs) where
   writes-output o out h f = rw (← writes-answer (length o) (length xs) h refl, q) f
 
 -- the count is there exactly if there is something to write
-pub counts : (u : Outcome) (n : ℕ) → counted u ≡ Done n → (u ≡ writes (content u)) × (n ≡ length (content u))
+pub counted-done : (u : Outcome) (n : ℕ) → counted u ≡ Done n → (u ≡ writes (content u)) × (n ≡ length (content u))
 unfolding counted content
-counts (writes xs) n e = (refl, cc)
-counts (refuses r) n e = let z : _≡_ {A = ℕ} 0 1 = cc in absurd (omega arith)
+counted-done (writes xs) n e = (refl, cc)
+counted-done (refuses r) n e = let z : _≡_ {A = ℕ} 0 1 = cc in absurd (omega arith)
 
-pub refused : (u : Outcome) (r : Refusal) → counted u ≡ Refused r → u ≡ refuses r
+pub counted-refused : (u : Outcome) (r : Refusal) → counted u ≡ Refused r → u ≡ refuses r
 unfolding counted
-refused (writes xs) r e = let z : _≡_ {A = ℕ} 0 1 = cc in absurd (omega arith)
-refused (refuses q) r e = let k : q ≡ r = cc in ap refuses k
+counted-refused (writes xs) r e = let z : _≡_ {A = ℕ} 0 1 = cc in absurd (omega arith)
+counted-refused (refuses q) r e = let k : q ≡ r = cc in ap refuses k
 
 -- ---- a call, given its count v
 module _ (u : Outcome) (v : Answer) (e : v ≡ counted u) where
   module _ (r : Refusal) (q : v ≡ Refused r) where
     pub call-refused : (m : ℕ) → Refused r ≡ answer u m
-    call-refused m = refuses-answer u r (refused u r (sym e ∙ q)) m
+    call-refused m = refuses-answer u r (counted-refused u r (sym e ∙ q)) m
 
     pub kept-refused : (o : List ℕ) → o ≡ output u o
-    kept-refused o = refuses-output u r (refused u r (sym e ∙ q)) o
+    kept-refused o = refuses-output u r (counted-refused u r (sym e ∙ q)) o
 
   module _ (n : ℕ) (q : v ≡ Done n) where
     pub call-writes : u ≡ writes (content u)
-    call-writes = counts u n (sym e ∙ q) .0
+    call-writes = counted-done u n (sym e ∙ q) .0
 
     count : n ≡ length (content u)
-    count = counts u n (sym e ∙ q) .1
+    count = counted-done u n (sym e ∙ q) .1
 
     pub call-room : (m : ℕ) → n ≤ m → length (content u) ≤ m
     call-room m h = omega (arith, count)
@@ -82,8 +83,3 @@ module _ (u : Outcome) (v : Answer) (e : v ≡ counted u) where
 
 -- every way out of a call but what it lends to the function that writes, and what that leaves
 pub ruleset call = (call-refused, kept-refused, call-short, kept-short, call-done)
-
--- ---- no second answer fits, and no second output
-pub one-answer : (u : Outcome) (o : List ℕ) (r r' : Answer) (out out' : List ℕ)
-    → r ≡ answer u (length o) → out ≡ output u o → r' ≡ answer u (length o) → out' ≡ output u o → (r ≡ r') × (out ≡ out')
-one-answer u o r r' out out' e f e' f' = (cc, cc)

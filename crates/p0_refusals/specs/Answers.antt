@@ -26,11 +26,6 @@ unfoldable pub content : Outcome → List ℕ
 content (writes xs) = xs
 content (refuses r) = []
 
--- the answer if any output is long enough
-unfoldable pub counted : Outcome → Answer
-counted (writes xs) = Done (length xs)
-counted (refuses r) = Refused r
-
 -- The answer with so much room lent. "3: the lent output is shorter than the answer", and 3 comes last.
 unfoldable pub answer : Outcome → ℕ → Answer
 answer (writes xs) room = pick (ltb room (length xs)) (Refused Short) (Done (length xs))

@@ -1,7 +1,8 @@
 -- Document 01's table of refusals: the number of each.
 use Prim.Native.Nat.{ℕ}
 use Rattle.p0_refusals.specs.declared.Refusal.{Refusal}
-use Rattle.p0_refusals.specs.declared.Refusal.the-variants.{Foreign, Full, Short, Empty, NoUndo, Long, NoWord, Malformed, NoMethod, Unsound}
+use Rattle.p0_refusals.specs.declared.Refusal.the-variants.{Foreign, Full, Short, Empty, NoUndo, Long, NoWord, Malformed, NoMethod}
+use Rattle.p0_refusals.specs.declared.Refusal.the-variants.{Unsound}
 
 abbrev pub numberOf : Refusal → ℕ
 numberOf Foreign = 1

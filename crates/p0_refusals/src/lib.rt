@@ -3,6 +3,12 @@ ghost use mathlib.Core.Path.{_≡_};
 ghost use Rattle.p0_refusals.specs.Answers.{refusalOf};
 ghost use Rattle.p0_refusals.specs.Refusals.{numberOf};
 
+// The most letters of a word, of a raw string, and to be written as UTF-8; `letterLimit` says the same.
+pub const LETTERS: usize = 64;
+
+// The most bytes to be read as UTF-8; `byteLimit` says the same.
+pub const BYTES: usize = 256;
+
 // Why a call refuses: a row of document 01's table each, in its order.
 pub enum Refusal {
     // a code point outside the alphabet

@@ -8,7 +8,7 @@ use native.Mathlib.Omega.{arith}
 use lib.Dec.{T, ltb, leb, eqb}
 use lib.ListN.{length}
 use borrow.Author.Tests.{eqb-true, eq-eqb, leb-true, le-leb}
-use Rattle.p0_choice.specs.Choice.{pick, among, count}
+use Rattle.p0_choice.specs.Choice.{pick, among, from}
 use Rattle.p0_choice.specs.Text.{word}
 use Rattle.p0_choice.proofs.Tables.{among-left, among-right, among-count}
 use Rattle.p0_choice.proofs.Tests.{both-are, are-both}
@@ -63,14 +63,14 @@ kept-among p (y ∷ ys) x = go (p y) refl (eqb x y) refl (kept-among p ys x)
 
 -- the numbers at which a test is tried: the letters stand in two runs of code points
 unfoldable runs : List ℕ
-runs = count 0x1b1 0 ++ count 90 0x1ea0
+runs = from 0x1b1 0 ++ from 90 0x1ea0
 
 in-runs : (x : ℕ) → (x < 0x1b1) ⊎ ((0x1ea0 ≤ x) × (x < 0x1efa)) → among x runs ≡ true
 unfolding runs
 in-runs x =
-    ⊎-elim (λ (h : x < 0x1b1). among-left x (count 0x1b1 0) (count 90 0x1ea0) (among-count 0x1b1 0 x (omega arith) (omega arith)))
+    ⊎-elim (λ (h : x < 0x1b1). among-left x (from 0x1b1 0) (from 90 0x1ea0) (among-count 0x1b1 0 x (omega arith) (omega arith)))
     (λ (h : (0x1ea0 ≤ x) × (x < 0x1efa)).
-    among-right x (count 0x1b1 0) (count 90 0x1ea0) (among-count 90 0x1ea0 x (h .0) (omega (arith, h .1))))
+    among-right x (from 0x1b1 0) (from 90 0x1ea0) (among-count 90 0x1ea0 x (h .0) (omega (arith, h .1))))
 
 yes : (b : Bool) → T b → b ≡ true
 yes true t = refl

@@ -5,3 +5,4 @@ pub mod Tones
 pub mod Vowels
 pub mod ToneOn
 pub mod Counts
+pub mod Only

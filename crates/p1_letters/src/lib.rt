@@ -5,7 +5,8 @@ ghost use mathlib.Core.Path.{_≡_};
 ghost use mathlib.Core.List.{[], _∷_};
 ghost use lib.Dec.{eqb};
 ghost use Rattle.p0_choice.specs.Choice.{among};
-ghost use Rattle.p1_letters.specs.Alphabet.{smallBy32, smallBy1, smallNext, isCapital, inAlphabet, allLetters, isWhiteSpace, isSeparator, asciiLower, asciiUpper, lower as lowerOf, upper as upperOf};
+ghost use Rattle.p1_letters.specs.Alphabet.{smallBy32, smallBy1, smallNext, isCapital, inAlphabet, allLetters, isWhiteSpace};
+ghost use Rattle.p1_letters.specs.Alphabet.{isSeparator, asciiLower, asciiUpper, lower as lowerOf, upper as upperOf};
 ghost use Rattle.p1_letters.specs.Tones.{toneFrom, toneOn, toneOff};
 ghost use Rattle.p1_letters.specs.Vowels.{vowels, isVowel, isSpellingVowel};
 

@@ -11,7 +11,8 @@ use Rattle.p0_choice.specs.Text.{word}
 use Rattle.p1_letters.specs.Alphabet.{smallBy32, smallBy1, smallHigh, smallNext, isSmall, isAsciiCapital, isCapital, inAlphabet}
 use Rattle.p1_letters.proofs.Alphabet.{every-letter}
 use Rattle.p1_unicode.specs.Ucd.{Decomposition, decompositions, classes}
-use Rattle.p1_unicode.specs.Canonical.{stepIn, stepOf, apart, classIn, classOf, reorderable, exchanged, run, ordered, canonical, CanonicallyEqual}
+use Rattle.p1_unicode.specs.Canonical.{decompositionIn, decompositionOf, apart, classIn, classOf, reorderable, exchanged, run}
+use Rattle.p1_unicode.specs.Canonical.{ordered, canonical, CanonicallyEqual}
 
 -- two lists of the same code points
 unfoldable pub sameList : List ℕ → List ℕ → Bool
@@ -32,9 +33,10 @@ same-list (x ∷ xs) (y ∷ ys) e = go (eqb x y) refl e (same-list xs ys)
     go false q h f = let z : _≡_ {A = ℕ} 0 1 = cc in absurd (omega arith)
 
 -- four steps take every letter apart as far as it goes
-pub apart-fully : (x : ℕ) → inAlphabet x ≡ true → each (λ (y : ℕ). eqb (stepOf y .second) 0) (apart 4 x) ≡ true
-unfolding smallBy32 smallBy1 smallHigh smallNext isSmall isAsciiCapital isCapital inAlphabet word stepIn stepOf apart decompositions
-apart-fully x e = every-letter (λ (z : ℕ). each (λ (y : ℕ). eqb (stepOf y .second) 0) (apart 4 z)) tt tt x e
+pub apart-fully : (x : ℕ) → inAlphabet x ≡ true → each (λ (y : ℕ). eqb (decompositionOf y .second) 0) (apart 4 x) ≡ true
+unfolding smallBy32 smallBy1 smallHigh smallNext isSmall isAsciiCapital isCapital inAlphabet word decompositionIn decompositionOf apart
+    decompositions
+apart-fully x e = every-letter (λ (z : ℕ). each (λ (y : ℕ). eqb (decompositionOf y .second) 0) (apart 4 z)) tt tt x e
 
 -- the letter that decomposes into two code points, or 0
 unfoldable joinIn : List Decomposition → ℕ → ℕ → ℕ
@@ -51,7 +53,8 @@ together [] = 0
 together (x ∷ xs) = joined x xs
 
 together-back : (x : ℕ) → inAlphabet x ≡ true → together (canonical (x ∷ [])) ≡ x
-unfolding smallBy32 smallBy1 smallHigh smallNext isSmall isAsciiCapital isCapital inAlphabet word stepIn stepOf apart decompositions classIn classOf classes reorderable exchanged run ordered canonical joinIn joined together
+unfolding smallBy32 smallBy1 smallHigh smallNext isSmall isAsciiCapital isCapital inAlphabet word decompositionIn decompositionOf apart
+    decompositions classIn classOf classes reorderable exchanged run ordered canonical joinIn joined together
 together-back x e = eqb-true (together (canonical (x ∷ []))) x (every-letter (λ (y : ℕ). eqb (together (canonical (y ∷ []))) y) tt tt x e)
 
 pub letters-differ : (x y : ℕ) → inAlphabet x ≡ true → inAlphabet y ≡ true → CanonicallyEqual (x ∷ []) (y ∷ []) → x ≡ y

@@ -8,7 +8,8 @@ use borrow.Author.Tests.{eqb-true, eqb-false, ne-eqb, not-true}
 use Rattle.p0_choice.specs.Choice.{same}
 use Rattle.p0_choice.specs.Text.{word}
 use Rattle.p0_choice.proofs.Tables.{same-true}
-use Rattle.p1_letters.specs.Alphabet.{smallBy32, smallBy1, smallHigh, smallNext, isSmall, isAsciiCapital, isCapital, inAlphabet, asciiUpper, lower, upper}
+use Rattle.p1_letters.specs.Alphabet.{smallBy32, smallBy1, smallHigh, smallNext, isSmall, isAsciiCapital, isCapital, inAlphabet, asciiUpper}
+use Rattle.p1_letters.specs.Alphabet.{lower, upper}
 use Rattle.p1_letters.proofs.Alphabet.{every-letter}
 use Rattle.p1_unicode.specs.Ucd.{casePairs}
 use Rattle.p1_unicode.specs.Case.{smallIn, capitalIn, simpleLower, simpleUpper}
@@ -27,7 +28,8 @@ module _ (x : ℕ) (e : inAlphabet x ≡ true) where
   lower-unicode = eqb-true (lower x) (simpleLower x) (every-letter (λ (y : ℕ). eqb (lower y) (simpleLower y)) tt tt x e)
 
   pub upper-unicode : upper x ≡ simpleUpper x
-  unfolding smallBy32 smallBy1 smallHigh smallNext isSmall isAsciiCapital isCapital inAlphabet asciiUpper upper word capitalIn simpleUpper casePairs
+  unfolding smallBy32 smallBy1 smallHigh smallNext isSmall isAsciiCapital isCapital inAlphabet asciiUpper upper word capitalIn simpleUpper
+      casePairs
   upper-unicode = eqb-true (upper x) (simpleUpper x) (every-letter (λ (y : ℕ). eqb (upper y) (simpleUpper y)) tt tt x e)
 
   isCapital-lower : isCapital x ≡ not (eqb (lower x) x)

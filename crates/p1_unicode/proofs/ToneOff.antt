@@ -10,7 +10,8 @@ use Rattle.p1_letters.specs.Alphabet.{smallBy32, smallBy1, smallHigh, smallNext
 use Rattle.p1_letters.specs.Tones.{toneRows, offIn, toneOff}
 use Rattle.p1_letters.proofs.Alphabet.{every-letter}
 use Rattle.p1_unicode.specs.Ucd.{decompositions, classes}
-use Rattle.p1_unicode.specs.Canonical.{stepIn, stepOf, apart, classIn, classOf, reorderable, exchanged, run, ordered, canonical, toneMarks, withoutTone}
+use Rattle.p1_unicode.specs.Canonical.{decompositionIn, decompositionOf, apart, classIn, classOf, reorderable, exchanged, run}
+use Rattle.p1_unicode.specs.Canonical.{ordered, canonical, toneMarks, withoutTone}
 use Rattle.p1_unicode.proofs.Canonical.{sameList, same-list, letters-differ}
 
 -- the form of a letter with its tone off: of a capital its own, of any other what is left without the mark
@@ -23,7 +24,9 @@ module _ (x : ℕ) (e : inAlphabet x ≡ true) where
   off-stays = every-letter (λ (y : ℕ). inAlphabet (toneOff y)) tt tt x e
 
   off-form : canonical (toneOff x ∷ []) ≡ formOff x
-  unfolding formOff smallBy32 smallBy1 smallHigh smallNext isSmall isAsciiCapital isCapital inAlphabet word toneRows offIn toneOff stepIn stepOf apart decompositions classIn classOf classes reorderable exchanged run ordered canonical toneMarks sameList
+  unfolding formOff smallBy32 smallBy1 smallHigh smallNext isSmall isAsciiCapital isCapital inAlphabet word toneRows offIn toneOff
+      decompositionIn decompositionOf apart decompositions classIn classOf classes reorderable exchanged run ordered canonical toneMarks
+      sameList
   off-form = same-list _ _ (every-letter (λ (y : ℕ). sameList (canonical (toneOff y ∷ [])) (formOff y)) tt tt x e)
 
   -- a capital is left, toned or not

@@ -15,7 +15,8 @@ use Rattle.p1_letters.specs.Vowels.{vowels, isVowel}
 use Rattle.p1_letters.proofs.Vowels.{every-vowel}
 use Rattle.p1_letters.proofs.ToneOn.{keys}
 use Rattle.p1_unicode.specs.Ucd.{decompositions, classes}
-use Rattle.p1_unicode.specs.Canonical.{stepIn, stepOf, apart, classIn, classOf, reorderable, exchanged, run, ordered, canonical, CanonicallyEqual, toneMark}
+use Rattle.p1_unicode.specs.Canonical.{decompositionIn, decompositionOf, apart, classIn, classOf, reorderable, exchanged, run}
+use Rattle.p1_unicode.specs.Canonical.{ordered, canonical, CanonicallyEqual, toneMark}
 use Rattle.p1_unicode.proofs.Canonical.{sameList, same-list, letters-differ}
 
 -- a test of a vowel and a tone key
@@ -24,19 +25,22 @@ unfolding keys word
 onKeys p x = each (p x) keys
 
 -- one that passes at each vowel and key, by computation, passes at each
-each-tone : (p : ℕ → ℕ → Bool) → ((x : ℕ) → isVowel x ≡ true → onKeys p x ≡ true) → (x t : ℕ) → isVowel x ≡ true → among t keys ≡ true → p x t ≡ true
+each-tone : (p : ℕ → ℕ → Bool) → ((x : ℕ) → isVowel x ≡ true → onKeys p x ≡ true) → (x t : ℕ) → isVowel x ≡ true → among t keys ≡ true
+    → p x t ≡ true
 unfolding onKeys keys word
 each-tone p f x t e k = each-among (p x) keys (rw (f x e) tt) t k
 
 module _ (x t : ℕ) (v : isVowel x ≡ true) (k : among t keys ≡ true) where
   pub toned-letter : inAlphabet (toneOn x t) ≡ true
-  unfolding onKeys keys word smallBy32 smallBy1 smallHigh smallNext isSmall isAsciiCapital isCapital inAlphabet asciiLower toneRows toneColumn rowOf toneFrom toneOn vowels isVowel
+  unfolding onKeys keys word smallBy32 smallBy1 smallHigh smallNext isSmall isAsciiCapital isCapital inAlphabet asciiLower toneRows
+      toneColumn rowOf toneFrom toneOn vowels isVowel
   toned-letter =
       each-tone (λ (y u : ℕ). inAlphabet (toneOn y u)) (every-vowel (onKeys (λ (y u : ℕ). inAlphabet (toneOn y u))) tt) x t v k
 
   -- "A toned letter is canonically equal (Unicode) to its vowel with" the tone's mark
   pub toned-unicode : CanonicallyEqual (toneOn x t ∷ []) (asciiLower x ∷ toneMark t ∷ [])
-  unfolding onKeys keys word isAsciiCapital asciiLower toneRows toneColumn rowOf toneFrom toneOn vowels isVowel stepIn stepOf apart decompositions classIn classOf classes reorderable exchanged run ordered canonical toneMark sameList
+  unfolding onKeys keys word isAsciiCapital asciiLower toneRows toneColumn rowOf toneFrom toneOn vowels isVowel decompositionIn
+      decompositionOf apart decompositions classIn classOf classes reorderable exchanged run ordered canonical toneMark sameList
   toned-unicode =
       same-list _ _
       (each-tone (λ (y u : ℕ). sameList (canonical (toneOn y u ∷ [])) (canonical (asciiLower y ∷ toneMark u ∷ [])))
@@ -45,7 +49,8 @@ module _ (x t : ℕ) (v : isVowel x ≡ true) (k : among t keys ≡ true) where
   pub off-undoes : toneOff (toneOn x t) ≡ asciiLower x
   unfolding onKeys keys word isAsciiCapital asciiLower toneRows toneColumn rowOf toneFrom toneOn vowels isVowel offIn toneOff
   off-undoes =
-      eqb-true _ _ (each-tone (λ (y u : ℕ). eqb (toneOff (toneOn y u)) (asciiLower y)) (every-vowel (onKeys (λ (y u : ℕ). eqb (toneOff (toneOn y u)) (asciiLower y))) tt) x t v k)
+      eqb-true _ _ (each-tone (λ (y u : ℕ). eqb (toneOff (toneOn y u)) (asciiLower y))
+      (every-vowel (onKeys (λ (y u : ℕ). eqb (toneOff (toneOn y u)) (asciiLower y))) tt) x t v k)
 
   -- it is the only letter of the alphabet that is
   pub toned-only : (y : ℕ) → inAlphabet y ≡ true → CanonicallyEqual (y ∷ []) (asciiLower x ∷ toneMark t ∷ []) → y ≡ toneOn x t

@@ -11,18 +11,19 @@ use Rattle.p0_choice.specs.Text.{word}
 use Rattle.p1_unicode.specs.Ucd.{Decomposition, step, decompositions, Class, classes}
 
 -- a code point's Decomposition_Mapping, one step; (x, 0) where it has none
-unfoldable pub stepIn : List Decomposition → ℕ → Decomposition
-stepIn [] x = step x x 0
-stepIn (d ∷ ds) x = elim (eqb x (d .code)) [ true ↦ d | false ↦ stepIn ds x ]
+unfoldable pub decompositionIn : List Decomposition → ℕ → Decomposition
+decompositionIn [] x = step x x 0
+decompositionIn (d ∷ ds) x = elim (eqb x (d .code)) [ true ↦ d | false ↦ decompositionIn ds x ]
 
-unfoldable pub stepOf : ℕ → Decomposition
-stepOf x = stepIn decompositions x
+unfoldable pub decompositionOf : ℕ → Decomposition
+decompositionOf x = decompositionIn decompositions x
 
 -- D68: the mapping, applied again to what it gives until nothing has one. Four times is more than any letter needs.
 unfoldable pub apart : ℕ → ℕ → List ℕ
 apart zero x = x ∷ []
 apart (suc n) x =
-    elim (eqb (stepOf x .second) 0) [ true ↦ x ∷ [] | false ↦ apart n (stepOf x .first) ++ apart n (stepOf x .second) ]
+    elim (eqb (decompositionOf x .second) 0)
+    [ true ↦ x ∷ [] | false ↦ apart n (decompositionOf x .first) ++ apart n (decompositionOf x .second) ]
 
 abbrev pub decomposed : List ℕ → List ℕ
 decomposed [] = []

@@ -7,11 +7,12 @@ use native.Mathlib.Omega.{arith}
 use lib.Dec.{T, eqb, ltb, leb}
 use lib.ListN.{getD, List·getD-eq-default}
 use borrow.Author.Tests.{eqb-true, eqb-false, leb-true, leb-false, ltb-true, ltb-false}
-use Rattle.p0_choice.specs.Choice.{pick, among, each, count}
+use Rattle.p0_choice.specs.Choice.{pick, among, each, from}
 use Rattle.p0_choice.specs.Text.{word}
 use Rattle.p0_choice.proofs.Tables.{pick-first, pick-second, each-among, each-count, among-below, among-above}
 use Rattle.p0_choice.proofs.Arms.{Missed, missed, amongAny}
-use Rattle.p2_input_method.specs.Rules.{markRules, noRule, markIn, markFor, toneKeys, isToneKey}
+use Rattle.p2_input_method.specs.Rules.{markRules, markIn, markFor, toneKeys, isToneKey}
+use Rattle.p2_input_method.specs.Mirror.{noRule}
 use Rattle.p2_input_method.specs.declared.InputMethod.{InputMethod}
 use Rattle.p2_input_method.specs.declared.MarkRule.{MarkRule}
 use Rattle.p2_input_method.specs.declared.InputMethod.the-variants.{Telex, Vni}
@@ -43,7 +44,8 @@ miss : (r : MarkRule) (rs : List MarkRule) (b k : ℕ) → (b ≡ r .first → k
 unfolding markIn
 miss r rs b k f = go (eqb b (r .first)) (eqb k (r .key)) refl refl
   where
-    go : (s t : Bool) → eqb b (r .first) ≡ s → eqb k (r .key) ≡ t → pick s (pick t (r .result) (markIn rs b k)) (markIn rs b k) ≡ markIn rs b k
+    go : (s t : Bool) → eqb b (r .first) ≡ s → eqb k (r .key) ≡ t
+        → pick s (pick t (r .result) (markIn rs b k)) (markIn rs b k) ≡ markIn rs b k
     go true true p q = absurd (f (eqb-true b (r .first) p) (eqb-true k (r .key) q))
     go true false p q = refl
     go false t p q = refl
@@ -53,7 +55,8 @@ unlike : (kss : List (List ℕ)) (x y : ℕ) → amongAny x kss ≡ false → am
 unlike kss x y p q e = let z : _≡_ {A = ℕ} 0 1 = cc in omega arith
 
 -- no rule has the key
-key-missed : (kss : List (List ℕ)) (rs : List MarkRule) (b k : ℕ) → amongAny k kss ≡ false → T (each (λ (r : MarkRule). amongAny (r .key) kss) rs)
+key-missed : (kss : List (List ℕ)) (rs : List MarkRule) (b k : ℕ) → amongAny k kss ≡ false
+    → T (each (λ (r : MarkRule). amongAny (r .key) kss) rs)
     → 0 ≡ markIn rs b k
 unfolding markIn
 key-missed kss [] b k e t = refl
@@ -68,7 +71,8 @@ unfolding markIn
 base-missed kss [] b j e t = refl
 base-missed kss (r ∷ rs) b j e t =
     base-missed kss rs b j e (pick-second (pick (eqb j (r .key)) (amongAny (r .first) kss) true) _ t)
-    ∙ sym (miss r rs b j (λ p q. unlike kss b (r .first) e (asked (eqb j (r .key)) refl q (pick-first (pick (eqb j (r .key)) (amongAny (r .first) kss) true) _ t)) p))
+    ∙ sym (miss r rs b j (λ p q. unlike kss b (r .first) e
+    (asked (eqb j (r .key)) refl q (pick-first (pick (eqb j (r .key)) (amongAny (r .first) kss) true) _ t)) p))
   where
     asked : (s : Bool) → eqb j (r .key) ≡ s → j ≡ r .key → pick s (amongAny (r .first) kss) true ≡ true → amongAny (r .first) kss ≡ true
     asked true p q h = h
@@ -91,28 +95,33 @@ pub rule-fits : (m : InputMethod) (b i k j r : ℕ) → b ≡ i → k ≡ j → 
 rule-fits m b i k j r p q h = rw (p, q) h
 
 -- ---- Telex's rules by their number
-pub rule-past : (N : Type 0) (kss : List (List ℕ)) (i : ℕ) → Missed N kss i → T (each (λ (j : ℕ). amongAny j kss) (count 7 0))
+pub rule-past : (N : Type 0) (kss : List (List ℕ)) (i : ℕ) → Missed N kss i → T (each (λ (j : ℕ). amongAny j kss) (from 7 0))
     → noRule ≡ getD (markRules Telex) i noRule
 unfolding markRules
 rule-past N kss i m t = sym (List·getD-eq-default (markRules Telex) noRule {n = i} (go (ltb i 7) refl))
   where
     go : (b : Bool) → ltb i 7 ≡ b → 7 ≤ i
-    go true e = absurd (unlike kss i i (missed N kss i m) (each-count (λ (j : ℕ). amongAny j kss) 7 0 t i (omega arith) (ltb-true i 7 e)) refl)
+    go true e =
+        absurd (unlike kss i i (missed N kss i m) (each-count (λ (j : ℕ). amongAny j kss) 7 0 t i (omega arith) (ltb-true i 7 e)) refl)
     go false e = ltb-false i 7 e
 
 -- ---- what every tone key passes
-pub tone-key-passes : (p : ℕ → Bool) → T (each p (toneKeys Telex)) → T (each p (toneKeys Vni)) → (m : InputMethod) (k : ℕ) → isToneKey m k ≡ true → p k ≡ true
+pub tone-key-passes : (p : ℕ → Bool) → T (each p (toneKeys Telex)) → T (each p (toneKeys Vni)) → (m : InputMethod) (k : ℕ)
+    → isToneKey m k ≡ true → p k ≡ true
 unfolding isToneKey
 tone-key-passes p a b Telex k e = each-among p (toneKeys Telex) a k e
 tone-key-passes p a b Vni k e = each-among p (toneKeys Vni) b k e
 
 -- ---- what 0 and every rule's result pass, so does what any base and key make
-in-passes : (p : ℕ → Bool) (rs : List MarkRule) (b k : ℕ) → p 0 ≡ true → T (each (λ (r : MarkRule). p (r .result)) rs) → p (markIn rs b k) ≡ true
+in-passes : (p : ℕ → Bool) (rs : List MarkRule) (b k : ℕ) → p 0 ≡ true → T (each (λ (r : MarkRule). p (r .result)) rs)
+    → p (markIn rs b k) ≡ true
 unfolding markIn
 in-passes p [] b k z t = z
-in-passes p (r ∷ rs) b k z t = go (eqb b (r .first)) (eqb k (r .key)) (pick-first (p (r .result)) _ t) (in-passes p rs b k z (pick-second (p (r .result)) _ t))
+in-passes p (r ∷ rs) b k z t =
+    go (eqb b (r .first)) (eqb k (r .key)) (pick-first (p (r .result)) _ t) (in-passes p rs b k z (pick-second (p (r .result)) _ t))
   where
-    go : (s u : Bool) → p (r .result) ≡ true → p (markIn rs b k) ≡ true → p (pick s (pick u (r .result) (markIn rs b k)) (markIn rs b k)) ≡ true
+    go : (s u : Bool) → p (r .result) ≡ true → p (markIn rs b k) ≡ true
+        → p (pick s (pick u (r .result) (markIn rs b k)) (markIn rs b k)) ≡ true
     go true true h q = h
     go true false h q = q
     go false u h q = q

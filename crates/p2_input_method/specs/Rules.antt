@@ -1,5 +1,6 @@
 -- Document 01, "Port order", 2: "tone keys as just given. Mark rules, in order".
 use Prim.Native.Nat.{ℕ}
+use Prim.Native.Char.{code}
 use Prim.Native.String.{String}
 use mathlib.Core.Bool.{Bool}
 use mathlib.Core.List.{List, [], _∷_}
@@ -10,8 +11,6 @@ use Rattle.p0_choice.specs.Text.{word}
 use Rattle.p2_input_method.specs.declared.InputMethod.{InputMethod}
 use Rattle.p2_input_method.specs.declared.InputMethod.the-variants.{Telex, Vni}
 use Rattle.p2_input_method.specs.declared.MarkRule.{MarkRule}
-use Rattle.p2_input_method.specs.declared.UndoBehavior.{UndoBehavior}
-use Rattle.p2_input_method.specs.declared.UndoBehavior.the-variants.{AppendTrigger, ConsumeTrigger}
 
 -- "sắc (s, 1), huyền (f, 2), hỏi (r, 3), ngã (x, 4), nặng (j, 5)"
 unfoldable pub toneKeys : InputMethod → List ℕ
@@ -21,36 +20,31 @@ toneKeys Vni = word "12345"
 unfoldable pub isToneKey : InputMethod → ℕ → Bool
 isToneKey m k = among k (toneKeys m)
 
--- a rule's pattern, its first letter and its key; the letter that it makes; what its undo does with the trigger
-unfoldable pub markRule : String → String → UndoBehavior → MarkRule
-markRule pattern result undo =
-    record { first = getD (word pattern) 0 0; key = getD (word pattern) 1 0; result = getD (word result) 0 0; undo = undo }
+-- a rule's pattern, its first letter and its key; the letter that it makes
+unfoldable pub markRule : String → String → MarkRule
+markRule pattern result =
+    record { first = getD (word pattern) 0 0; key = getD (word pattern) 1 0; result = getD (word result) 0 0 }
 
--- "Telex aw aa ee oo ow uw dd; VNI a6 e6 o6 o7 u7 a8 d9. Telex undo: dd consumes its trigger, the others append it.
--- VNI has none." (What stands for VNI's undo here is never asked.)
+-- "Telex aw aa ee oo ow uw dd; VNI a6 e6 o6 o7 u7 a8 d9."
 unfoldable pub markRules : InputMethod → List MarkRule
 markRules Telex =
-    markRule "aw" "ă" AppendTrigger ∷
-    markRule "aa" "â" AppendTrigger ∷
-    markRule "ee" "ê" AppendTrigger ∷
-    markRule "oo" "ô" AppendTrigger ∷
-    markRule "ow" "ơ" AppendTrigger ∷
-    markRule "uw" "ư" AppendTrigger ∷
-    markRule "dd" "đ" ConsumeTrigger ∷
+    markRule "aw" "ă" ∷
+    markRule "aa" "â" ∷
+    markRule "ee" "ê" ∷
+    markRule "oo" "ô" ∷
+    markRule "ow" "ơ" ∷
+    markRule "uw" "ư" ∷
+    markRule "dd" "đ" ∷
     []
 markRules Vni =
-    markRule "a6" "â" AppendTrigger ∷
-    markRule "e6" "ê" AppendTrigger ∷
-    markRule "o6" "ô" AppendTrigger ∷
-    markRule "o7" "ơ" AppendTrigger ∷
-    markRule "u7" "ư" AppendTrigger ∷
-    markRule "a8" "ă" AppendTrigger ∷
-    markRule "d9" "đ" AppendTrigger ∷
+    markRule "a6" "â" ∷
+    markRule "e6" "ê" ∷
+    markRule "o6" "ô" ∷
+    markRule "o7" "ơ" ∷
+    markRule "u7" "ư" ∷
+    markRule "a8" "ă" ∷
+    markRule "d9" "đ" ∷
     []
-
--- what stands past the last rule
-abbrev pub noRule : MarkRule
-noRule = record { first = 0; key = 0; result = 0; undo = AppendTrigger }
 
 -- the result of the first rule whose pattern is the base b with the key k; 0 where there is none
 unfoldable pub markIn : List MarkRule → ℕ → ℕ → ℕ
@@ -62,5 +56,5 @@ markFor m b k = markIn (markRules m) b k
 
 -- "Telex w, VNI 7": the key of the uo and ua steps
 unfoldable pub isHornKey : InputMethod → ℕ → Bool
-isHornKey Telex k = eqb k 119
-isHornKey Vni k = eqb k 55
+isHornKey Telex k = eqb k (code "w")
+isHornKey Vni k = eqb k (code "7")

@@ -1,7 +1,8 @@
-// The two input methods (input_method.rs): tone keys, mark rules in order, and what an undo does with its trigger.
+// The two input methods (input_method.rs): tone keys, and mark rules in order.
 ghost use mathlib.Core.Path.{_≡_};
 ghost use lib.ListN.{getD};
-ghost use Rattle.p2_input_method.specs.Rules.{isToneKey, markRules, noRule, markFor, isHornKey};
+ghost use Rattle.p2_input_method.specs.Rules.{isToneKey, markRules, markFor, isHornKey};
+ghost use Rattle.p2_input_method.specs.Mirror.{noRule};
 ghost use Rattle.p2_input_method.specs.declared.InputMethod.the-variants.{Telex, Vni};
 
 pub enum InputMethod {
@@ -9,18 +10,11 @@ pub enum InputMethod {
     Vni,
 }
 
-// What becomes of the trigger after an undo.
-pub enum UndoBehavior {
-    AppendTrigger,
-    ConsumeTrigger,
-}
-
-// A mark rule: its pattern of two letters, the letter that it makes, and what its undo does.
+// A mark rule: its pattern of two letters, and the letter that it makes.
 pub struct MarkRule {
     pub first: u32,
     pub key: u32,
     pub result: u16,
-    pub undo: UndoBehavior,
 }
 
 pub const TELEX_RULES: usize = 7;
@@ -141,49 +135,41 @@ pub fn telex_rule(i: usize) -> MarkRule
             first: 97,
             key: 119,
             result: 0x103,
-            undo: UndoBehavior::AppendTrigger,
         },
         1 => MarkRule {
             first: 97,
             key: 97,
             result: 0xe2,
-            undo: UndoBehavior::AppendTrigger,
         },
         2 => MarkRule {
             first: 101,
             key: 101,
             result: 0xea,
-            undo: UndoBehavior::AppendTrigger,
         },
         3 => MarkRule {
             first: 111,
             key: 111,
             result: 0xf4,
-            undo: UndoBehavior::AppendTrigger,
         },
         4 => MarkRule {
             first: 111,
             key: 119,
             result: 0x1a1,
-            undo: UndoBehavior::AppendTrigger,
         },
         5 => MarkRule {
             first: 117,
             key: 119,
             result: 0x1b0,
-            undo: UndoBehavior::AppendTrigger,
         },
         6 => MarkRule {
             first: 100,
             key: 100,
             result: 0x111,
-            undo: UndoBehavior::ConsumeTrigger,
         },
         _ => MarkRule {
             first: 0,
             key: 0,
             result: 0,
-            undo: UndoBehavior::AppendTrigger,
         },
     }
 }

@@ -5,8 +5,7 @@ use mathlib.Core.Bool.{Bool, true, false}
 use mathlib.Core.List.{[], _∷_, _++_}
 use native.Mathlib.Omega.{arith}
 use lib.Dec.{ltb}
-use lib.ListN.{length, take, length-append}
-use lib.Seq.{length-take-le}
+use lib.ListN.{length, take, length-append, length-take}
 use borrow.Author.Tests.{ltb-true}
 use Rattle.p0_choice.specs.Choice.{pick}
 use Rattle.p0_refusals.specs.Answers.{writes, refuses, answer}
@@ -14,24 +13,31 @@ use Rattle.p0_refusals.specs.declared.Answer.the-variants.{Done}
 use Rattle.p0_refusals.specs.declared.Refusal.the-variants.{Foreign, Full, Unsound}
 use Rattle.p1_letters.specs.Alphabet.{inAlphabet}
 use Rattle.p2_input_method.specs.declared.InputMethod.{InputMethod}
-use Rattle.p3_cells.specs.Cells.{limit, isBlank, typed, isCell, fitsAt, isSound, used}
+use Rattle.p3_cells.specs.Cells.{limit, typed, isCell, isSound, used}
 use Rattle.p3_cells.specs.declared.Composition.{Composition}
 use Rattle.p3_cells.specs.declared.Mode.{Mode}
 use Rattle.p0_choice.proofs.Tests.{each-append, each-take}
 use Rattle.p3_cells.proofs.Made.{typed-cell}
-use Rattle.p3_cells.proofs.Leaving.{changed-keeps}
-use Rattle.p3_cells.proofs.Holding.{count-fits, used-length, used-cells, holding-sound}
+use Rattle.p3_cells.proofs.Leaving.{leaving-keeps}
+use Rattle.p3_cells.proofs.Holding.{length-blanks, blanks-at, count-fits, used-length, used-cells, holding-sound}
+use Rattle.p3_cells.proofs.Soundness.{is-sound, sound-cells}
 use Rattle.p3_calls.specs.Settings.{empty, created, settled, resetTo, methodSet, turned, enabledSet}
 use Rattle.p3_calls.specs.Literal.{literalOutcome, literal}
-use Rattle.p3_calls.specs.Output.{left, popOutcome, popped}
+use Rattle.p3_calls.specs.Output.{left, removalOutcome, removed}
 
 abbrev Sound : Composition → Type 0
 Sound c = isSound c ≡ true
 
 -- ---- a new composition, the reset and the settings
 empty-sound : (m : InputMethod) (mode : Mode) → isSound (empty m mode) ≡ true
-unfolding isSound fitsAt isBlank empty
-empty-sound m mode = refl
+unfolding empty
+empty-sound m mode =
+    is-sound (empty m mode) (record {
+      whole = length-blanks limit;
+      few = omega arith;
+      inUse = λ i h. absurd (omega arith);
+      past = λ i l h. blanks-at limit i;
+    })
 
 pub new-sound : (m : InputMethod) → isSound (created m) ≡ true
 unfolding created
@@ -40,47 +46,47 @@ new-sound m = empty-sound m _
 module _ (c : Composition) (s : isSound c ≡ true) where
   pub reset-sound : isSound (resetTo c .comp) ≡ true
   unfolding resetTo
-  reset-sound = changed-keeps Sound (answer (settled c) 0) c _ s (λ k e. empty-sound (c .method) (c .mode))
+  reset-sound = leaving-keeps Sound (answer (settled c) 0) c _ s (λ k e. empty-sound (c .method) (c .mode))
 
   pub set-method-sound : (m : InputMethod) → isSound (methodSet c m .comp) ≡ true
   unfolding methodSet
-  set-method-sound m = changed-keeps Sound (answer (settled c) 0) c _ s (λ k e. empty-sound m (c .mode))
+  set-method-sound m = leaving-keeps Sound (answer (settled c) 0) c _ s (λ k e. empty-sound m (c .mode))
 
   turned-sound : (on : Bool) → isSound (turned c on) ≡ true
-  unfolding turned isSound
-  turned-sound true = s
+  unfolding turned
+  turned-sound true = sound-cells c (turned c true) refl refl s
   turned-sound false = empty-sound (c .method) _
 
   pub set-enabled-sound : (on : Bool) → isSound (enabledSet c on .comp) ≡ true
   unfolding enabledSet
-  set-enabled-sound on = changed-keeps Sound (answer (settled c) 0) c _ s (λ k e. turned-sound on)
+  set-enabled-sound on = leaving-keeps Sound (answer (settled c) 0) c _ s (λ k e. turned-sound on)
 
-  module _ (n : length (c .cells) ≡ limit) where
-    -- ---- the literal
-    fits : (ch k : ℕ) → answer (literalOutcome c ch) 0 ≡ Done k → (inAlphabet ch ≡ true) × (length (used c) < limit)
-    unfolding literalOutcome answer
-    fits ch k e = go (isSound c) (inAlphabet ch) (ltb (length (used c)) limit) refl refl e
-      where
-        go : (a b d : Bool) → inAlphabet ch ≡ b → ltb (length (used c)) limit ≡ d
-            → answer (pick a (pick b (pick d (writes []) (refuses Full)) (refuses Foreign)) (refuses Unsound)) 0 ≡ Done k → (inAlphabet ch ≡ true) × (length (used c) < limit)
-        go true true true p q h = (p, ltb-true (length (used c)) limit q)
-        go true true false p q h = let z : _≡_ {A = ℕ} 0 1 = cc in absurd (omega arith)
-        go true false d p q h = let z : _≡_ {A = ℕ} 0 1 = cc in absurd (omega arith)
-        go false b d p q h = let z : _≡_ {A = ℕ} 0 1 = cc in absurd (omega arith)
+  -- ---- the literal
+  fits : (ch k : ℕ) → answer (literalOutcome c ch) 0 ≡ Done k → (inAlphabet ch ≡ true) × (length (used c) < limit)
+  unfolding literalOutcome answer
+  fits ch k e = go (isSound c) (inAlphabet ch) (ltb (length (used c)) limit) refl refl e
+    where
+      go : (a b d : Bool) → inAlphabet ch ≡ b → ltb (length (used c)) limit ≡ d
+          → answer (pick a (pick b (pick d (writes []) (refuses Full)) (refuses Foreign)) (refuses Unsound)) 0 ≡ Done k
+          → (inAlphabet ch ≡ true) × (length (used c) < limit)
+      go true true true p q h = (p, ltb-true (length (used c)) limit q)
+      go true true false p q h = let z : _≡_ {A = ℕ} 0 1 = cc in absurd (omega arith)
+      go true false d p q h = let z : _≡_ {A = ℕ} 0 1 = cc in absurd (omega arith)
+      go false b d p q h = let z : _≡_ {A = ℕ} 0 1 = cc in absurd (omega arith)
 
-    pub literal-sound : (ch : ℕ) → isSound (literal c ch .comp) ≡ true
-    unfolding literal
-    literal-sound ch =
-        changed-keeps Sound (answer (literalOutcome c ch) 0) c _ s
-        (λ k e. let f = fits ch k e in
-        holding-sound c (used c ++ (typed ch ∷ [])) (rw length-append (omega arith)) (each-append isCell (used c) (typed ch) (used-cells c s n) (typed-cell ch (f .0))))
+  pub literal-sound : (ch : ℕ) → isSound (literal c ch .comp) ≡ true
+  unfolding literal
+  literal-sound ch =
+      leaving-keeps Sound (answer (literalOutcome c ch) 0) c _ s
+      (λ k e. let f = fits ch k e in
+      holding-sound c (used c ++ (typed ch ∷ [])) (rw length-append (omega arith))
+      (each-append isCell (used c) (typed ch) (used-cells c s) (typed-cell ch (f .0))))
 
-    -- ---- the removal
-    pub pop-sound : (m : ℕ) → isSound (popped c m .comp) ≡ true
-    unfolding popped left
-    pop-sound m =
-        let u = used-length c s n in
-        let f = count-fits c s in
-        let l : length (take (length (used c) - 1) (used c)) ≤ limit = rw (length-take-le (length (used c) - 1) (used c) (omega arith)) (omega arith) in
-        changed-keeps Sound (answer (popOutcome c) m) c _ s
-        (λ k e. holding-sound c (left c) l (each-take isCell (length (used c) - 1) (used c) (used-cells c s n)))
+  -- ---- the removal
+  pub removal-sound : (m : ℕ) → isSound (removed c m .comp) ≡ true
+  unfolding removed left
+  removal-sound m =
+      let l : length (take (length (used c) - 1) (used c)) ≤ limit
+      = omega (arith, length-take (length (used c) - 1) (used c), used-length c s, count-fits c s) in
+      leaving-keeps Sound (answer (removalOutcome c) m) c _ s
+      (λ k e. holding-sound c (left c) l (each-take isCell (length (used c) - 1) (used c) (used-cells c s)))

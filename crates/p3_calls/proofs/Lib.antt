@@ -4,3 +4,4 @@ pub mod Output
 pub mod Kept
 pub mod Back
 pub mod Room
+pub mod Only

@@ -3,7 +3,7 @@ use Prim.Native.Nat.{ℕ, _+_, _<_, _≤_}
 use mathlib.Core.Path.{_≡_, refl, sym, _∙_}
 use mathlib.Core.Bool.{Bool, true, false, not}
 use mathlib.Core.List.{[], _∷_, _++_}
-use lib.ListN.{length, set}
+use lib.ListN.{set}
 use borrow.Author.Tests.{lt-ltb, le-ltb, not-true, not-false}
 use Rattle.p0_refusals.specs.Answers.{writes, refuses}
 use Rattle.p0_refusals.specs.declared.Refusal.the-variants.{Foreign, Full, Unsound}
@@ -24,20 +24,21 @@ module _ (c : Composition) (ch : ℕ) (s : Bool) (e : s ≡ isSound c) where
     unfolding literalOutcome
     literal-foreign k = rw (← e, not-false s h, ← f, not-true v k) refl
 
-    module _ (k : not v ≡ false) (n : length (c .cells) ≡ limit) where
+    module _ (k : not v ≡ false) where
       whole : isSound c ≡ true
       whole = sym e ∙ not-false s h
 
       pub literal-full : limit ≤ c .count → literalOutcome c ch ≡ refuses Full
       unfolding literalOutcome
-      literal-full l = rw (used-length c whole n, le-ltb (c .count) limit l, ← e, not-false s h, ← f, not-false v k) refl
+      literal-full l = rw (used-length c whole, le-ltb (c .count) limit l, ← e, not-false s h, ← f, not-false v k) refl
 
       pub literal-done : c .count < limit → literalOutcome c ch ≡ writes []
       unfolding literalOutcome
-      literal-done l = rw (used-length c whole n, lt-ltb (c .count) limit l, ← e, not-false s h, ← f, not-false v k) refl
+      literal-done l = rw (used-length c whole, lt-ltb (c .count) limit l, ← e, not-false s h, ← f, not-false v k) refl
 
       pub literal-appended : (x : Cell) → c .count < limit → x ≡ typed ch
-          → record { cells = set (c .cells) (c .count) x; method = c .method; mode = c .mode; count = c .count + 1 } ≡ holding c (used c ++ (typed ch ∷ []))
-      literal-appended x l q = rw (holding-append c whole n x l, q) refl
+          → record { cells = set (c .cells) (c .count) x; method = c .method; mode = c .mode; count = c .count + 1 } ≡ holding c
+          (used c ++ (typed ch ∷ []))
+      literal-appended x l q = rw (holding-append c whole x l, q) refl
 
 pub ruleset literals = (literal-unsound, literal-foreign, literal-full, literal-done, literal-appended)

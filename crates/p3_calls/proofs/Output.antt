@@ -12,14 +12,14 @@ use Rattle.p0_refusals.specs.declared.Answer.the-variants.{Done, Refused}
 use Rattle.p0_refusals.specs.declared.Refusal.the-variants.{Short, Empty, Unsound}
 use Rattle.p0_refusals.proofs.Answers.{refuses-answer, refuses-output, short-answer, short-output, writes-answer, writes-output}
 use Rattle.p3_cells.specs.Cells.{limit, blank, isSound, used, holding}
-use Rattle.p3_cells.specs.Leaving.{refused}
+use Rattle.p3_cells.specs.Leaving.{refusing}
 use Rattle.p3_cells.specs.Text.{shown, textOf}
 use Rattle.p3_cells.specs.declared.Cell.{Cell}
-use Rattle.p3_cells.specs.declared.Changed.{Changed}
+use Rattle.p3_cells.specs.declared.After.{After}
 use Rattle.p3_cells.specs.declared.Composition.{Composition}
 use Rattle.p3_cells.proofs.Holding.{count-fits, used-length, used-holding, holding-less}
-use Rattle.p3_cells.proofs.Leaving.{changed-refused, changed-short, changed-done}
-use Rattle.p3_calls.specs.Output.{textOutcome, left, popOutcome, popped}
+use Rattle.p3_cells.proofs.Leaving.{leaving-refused, leaving-short, leaving-done}
+use Rattle.p3_calls.specs.Output.{textOutcome, left, removalOutcome, removed}
 
 length-text : (xs : List Cell) → length (textOf xs) ≡ length xs
 unfolding textOf
@@ -37,16 +37,16 @@ module _ (c : Composition) (s : Bool) (e : s ≡ isSound c) where
     pub text-unsound-out : (o : List ℕ) → o ≡ output (textOutcome c) o
     text-unsound-out o = refuses-output _ _ text-no o
 
-    pop-no : popOutcome c ≡ refuses Unsound
-    unfolding popOutcome
-    pop-no = rw (← e, not-true s h) refl
+    removal-no : removalOutcome c ≡ refuses Unsound
+    unfolding removalOutcome
+    removal-no = rw (← e, not-true s h) refl
 
-    pub pop-unsound : (n : ℕ) (k : Changed) → k ≡ refused c Unsound → k ≡ popped c n
-    unfolding popped
-    pop-unsound n k q = changed-refused _ c _ n _ k pop-no q
+    pub removal-unsound : (n : ℕ) (k : After) → k ≡ refusing c Unsound → k ≡ removed c n
+    unfolding removed
+    removal-unsound n k q = leaving-refused _ c _ n _ k removal-no q
 
-    pub pop-unsound-out : (o : List ℕ) → o ≡ output (popOutcome c) o
-    pop-unsound-out o = refuses-output _ _ pop-no o
+    pub removal-unsound-out : (o : List ℕ) → o ≡ output (removalOutcome c) o
+    removal-unsound-out o = refuses-output _ _ removal-no o
 
   module _ (h : not s ≡ false) where
     whole : isSound c ≡ true
@@ -56,84 +56,93 @@ module _ (c : Composition) (s : Bool) (e : s ≡ isSound c) where
     pub sound-fits : c .count ≤ limit
     sound-fits = count-fits c whole
 
-    pub pop-below : (c .count ≡ 0 → ⊥) → c .count - 1 < limit
-    pop-below z = omega (arith, sound-fits)
+    pub removal-below : (c .count ≡ 0 → ⊥) → c .count - 1 < limit
+    removal-below z = omega (arith, sound-fits)
 
-    pub pop-fits : c .count - 1 ≤ limit
-    pop-fits = omega (arith, sound-fits)
+    pub removal-fits : c .count - 1 ≤ limit
+    removal-fits = omega (arith, sound-fits)
 
-    module _ (n : length (c .cells) ≡ limit) where
-      count : length (used c) ≡ c .count
-      count = used-length c whole n
+    count : length (used c) ≡ c .count
+    count = used-length c whole
 
-      -- ---- text
-      text-writes : textOutcome c ≡ writes (textOf (used c))
-      unfolding textOutcome
-      text-writes = rw whole refl
+    -- ---- text
+    text-writes : textOutcome c ≡ writes (textOf (used c))
+    unfolding textOutcome
+    text-writes = rw whole refl
 
-      room : length (textOf (used c)) ≡ c .count
-      room = length-text (used c) ∙ count
+    room : length (textOf (used c)) ≡ c .count
+    room = length-text (used c) ∙ count
 
-      pub text-short : (m : ℕ) → m < c .count → Refused Short ≡ answer (textOutcome c) m
-      text-short m l = short-answer _ _ text-writes m (rw room l)
+    pub text-short : (m : ℕ) → m < c .count → Refused Short ≡ answer (textOutcome c) m
+    text-short m l = short-answer _ _ text-writes m (rw room l)
 
-      pub text-short-out : (o : List ℕ) → length o < c .count → o ≡ output (textOutcome c) o
-      text-short-out o l = short-output _ _ text-writes o (rw room l)
+    pub text-short-out : (o : List ℕ) → length o < c .count → o ≡ output (textOutcome c) o
+    text-short-out o l = short-output _ _ text-writes o (rw room l)
 
-      pub text-done : (m r : ℕ) → c .count ≤ m → r ≡ c .count → Done r ≡ answer (textOutcome c) m
-      text-done m r l q = writes-answer _ _ text-writes m r (rw room l) (rw room q)
+    pub text-done : (m r : ℕ) → c .count ≤ m → r ≡ c .count → Done r ≡ answer (textOutcome c) m
+    text-done m r l q = writes-answer _ _ text-writes m r (rw room l) (rw room q)
 
-      pub text-done-out : (o out : List ℕ) → c .count ≤ length o → out ≡ textOf (used c) ++ drop (c .count) o → out ≡ output (textOutcome c) o
-      text-done-out o out l q = writes-output _ _ text-writes o out (rw room l) (rw room q)
+    pub text-done-out : (o out : List ℕ) → c .count ≤ length o → out ≡ textOf (used c) ++ drop (c .count) o → out ≡ output (textOutcome c) o
+    text-done-out o out l q = writes-output _ _ text-writes o out (rw room l) (rw room q)
 
-      -- ---- removal
-      module _ (z : c .count ≡ 0) where
-        pop-none : popOutcome c ≡ refuses Empty
-        unfolding popOutcome
-        pop-none = rw (whole, count, eq-eqb (c .count) 0 z) refl
+    -- ---- removal
+    module _ (z : c .count ≡ 0) where
+      removal-none : removalOutcome c ≡ refuses Empty
+      unfolding removalOutcome
+      removal-none = rw (whole, count, eq-eqb (c .count) 0 z) refl
 
-        pub pop-empty : (m : ℕ) (k : Changed) → k ≡ refused c Empty → k ≡ popped c m
-        unfolding popped
-        pop-empty m k q = changed-refused _ c _ m _ k pop-none q
+      pub removal-empty : (m : ℕ) (k : After) → k ≡ refusing c Empty → k ≡ removed c m
+      unfolding removed
+      removal-empty m k q = leaving-refused _ c _ m _ k removal-none q
 
-        pub pop-empty-out : (o : List ℕ) → o ≡ output (popOutcome c) o
-        pop-empty-out o = refuses-output _ _ pop-none o
+      pub removal-empty-out : (o : List ℕ) → o ≡ output (removalOutcome c) o
+      removal-empty-out o = refuses-output _ _ removal-none o
 
-      left-is : left c ≡ take (c .count - 1) (used c)
-      unfolding left
-      left-is = rw count refl
+    left-is : left c ≡ take (c .count - 1) (used c)
+    unfolding left
+    left-is = rw count refl
 
-      module _ (z : c .count ≡ 0 → ⊥) where
-        pop-writes : popOutcome c ≡ writes (textOf (left c))
-        unfolding popOutcome
-        pop-writes = rw (whole, count, ne-eqb (c .count) 0 z) refl
+    module _ (z : c .count ≡ 0 → ⊥) where
+      removal-writes : removalOutcome c ≡ writes (textOf (left c))
+      unfolding removalOutcome
+      removal-writes = rw (whole, count, ne-eqb (c .count) 0 z) refl
 
-        less : length (textOf (left c)) ≡ c .count - 1
-        less = length-text (left c) ∙ rw left-is (length-take-le (c .count - 1) (used c) (omega (arith, count)))
+      less : length (textOf (left c)) ≡ c .count - 1
+      less = length-text (left c) ∙ rw left-is (length-take-le (c .count - 1) (used c) (omega (arith, count)))
 
-        pub pop-short : (m : ℕ) (k : Changed) → m < c .count - 1 → k ≡ refused c Short → k ≡ popped c m
-        unfolding popped
-        pop-short m k l q = changed-short _ c _ m _ k pop-writes (rw less l) q
+      pub removal-short : (m : ℕ) (k : After) → m < c .count - 1 → k ≡ refusing c Short → k ≡ removed c m
+      unfolding removed
+      removal-short m k l q = leaving-short _ c _ m _ k removal-writes (rw less l) q
 
-        pub pop-short-out : (o : List ℕ) → length o < c .count - 1 → o ≡ output (popOutcome c) o
-        pop-short-out o l = short-output _ _ pop-writes o (rw less l)
+      pub removal-short-out : (o : List ℕ) → length o < c .count - 1 → o ≡ output (removalOutcome c) o
+      removal-short-out o l = short-output _ _ removal-writes o (rw less l)
 
-        -- with x for its last cell, and one cell less
-        abbrev shorter : Cell → Composition
-        shorter x = record { cells = set (c .cells) (c .count - 1) x; method = c .method; mode = c .mode; count = c .count - 1 }
+      -- with x for its last cell, and one cell less
+      abbrev shorter : Cell → Composition
+      shorter x = record { cells = set (c .cells) (c .count - 1) x; method = c .method; mode = c .mode; count = c .count - 1 }
 
-        shorter-is : (x : Cell) → x ≡ blank → shorter x ≡ holding c (left c)
-        shorter-is x b = rw (b, left-is) (holding-less c whole n (omega arith))
+      shorter-is : (x : Cell) → x ≡ blank → shorter x ≡ holding c (left c)
+      shorter-is x b = rw (b, left-is) (holding-less c whole (omega arith))
 
-        pub pop-done : (m r : ℕ) (x : Cell) → x ≡ blank → c .count - 1 ≤ m → r ≡ c .count - 1 → record { comp = shorter x; answer = Done r } ≡ popped c m
-        unfolding popped
-        pop-done m r x b l q = changed-done _ c _ m _ (shorter x) r pop-writes (rw less l) (rw less q) (shorter-is x b)
+      pub removal-done : (m r : ℕ) (x : Cell) → x ≡ blank → c .count - 1 ≤ m → r ≡ c .count - 1
+          → record { comp = shorter x; answer = Done r } ≡ removed c m
+      unfolding removed
+      removal-done m r x b l q = leaving-done _ c _ m _ (shorter x) r removal-writes (rw less l) (rw less q) (shorter-is x b)
 
-        pub pop-done-out : (o out : List ℕ) (x : Cell) → x ≡ blank → c .count - 1 ≤ length o → out ≡ textOf (used (shorter x)) ++ drop (c .count - 1) o
-            → out ≡ output (popOutcome c) o
-        pop-done-out o out x b l q =
-            writes-output _ _ pop-writes o out (rw less l) (rw less (rw (shorter-is x b, used-holding c (left c)) at q))
+      pub removal-done-out : (o out : List ℕ) (x : Cell) → x ≡ blank → c .count - 1 ≤ length o
+          → out ≡ textOf (used (shorter x)) ++ drop (c .count - 1) o → out ≡ output (removalOutcome c) o
+      removal-done-out o out x b l q =
+          writes-output _ _ removal-writes o out (rw less l) (rw less (rw (shorter-is x b, used-holding c (left c)) at q))
 
 pub ruleset texts = (text-unsound, text-unsound-out, text-short, text-short-out, text-done, text-done-out)
 
-pub ruleset removal = (pop-unsound, pop-unsound-out, pop-empty, pop-empty-out, pop-short, pop-short-out, pop-done, pop-done-out)
+pub ruleset removal = (
+  removal-unsound,
+  removal-unsound-out,
+  removal-empty,
+  removal-empty-out,
+  removal-short,
+  removal-short-out,
+  removal-done,
+  removal-done-out,
+)

@@ -1,4 +1,4 @@
--- With room for 32 letters the calls that write the text never refuse by 3.
+-- With room for the letters of all cells the calls that write the text never refuse by 3.
 use Prim.Native.Nat.{ℕ, _-_, _≤_}
 use mathlib.Core.Path.{_≡_, refl}
 use mathlib.Core.Bool.{Bool, true, false}
@@ -11,42 +11,42 @@ use Rattle.p0_refusals.specs.Answers.{writes, refuses, answer}
 use Rattle.p0_refusals.specs.declared.Answer.the-variants.{Refused}
 use Rattle.p0_refusals.specs.declared.Refusal.the-variants.{Short, Empty, Unsound}
 use Rattle.p0_refusals.proofs.Room.{Fits, enough}
-use Rattle.p3_cells.specs.Cells.{isSound, used}
+use Rattle.p3_cells.specs.Cells.{limit, isSound, used}
 use Rattle.p3_cells.specs.Text.{shown, textOf}
 use Rattle.p3_cells.specs.declared.Cell.{Cell}
 use Rattle.p3_cells.specs.declared.Composition.{Composition}
-use Rattle.p3_cells.proofs.Holding.{count-fits}
-use Rattle.p3_calls.specs.Output.{textOutcome, left, popOutcome}
+use Rattle.p3_cells.proofs.Holding.{used-few, count-fits}
+use Rattle.p3_calls.specs.Output.{textOutcome, left, removalOutcome}
 
-text-short : (n k : ℕ) (xs : List Cell) → n ≤ k → length (textOf (take n xs)) ≤ k
+text-short : (xs : List Cell) (k : ℕ) → length xs ≤ k → length (textOf xs) ≤ k
 unfolding textOf
-text-short n k xs h = omega (arith, length-map (take n xs) shown, length-take n xs)
+text-short xs k h = omega (arith, length-map xs shown)
 
 module _ (c : Composition) where
-  used-short : isSound c ≡ true → length (used c) ≤ 32
-  unfolding used
-  used-short s = omega (arith, count-fits c s, length-take (c .count) (c .cells))
+  used-short : isSound c ≡ true → length (used c) ≤ limit
+  used-short s = omega (arith, count-fits c s, used-few c)
 
-  text-fits : Fits 32 (textOutcome c)
-  unfolding textOutcome used
+  text-fits : Fits limit (textOutcome c)
+  unfolding textOutcome
   text-fits = go (isSound c) refl
     where
-      go : (s : Bool) → isSound c ≡ s → Fits 32 (pick s (writes (textOf (take (c .count) (c .cells)))) (refuses Unsound))
-      go true s = text-short (c .count) 32 (c .cells) (count-fits c s)
+      go : (s : Bool) → isSound c ≡ s → Fits limit (pick s (writes (textOf (used c))) (refuses Unsound))
+      go true s = text-short (used c) limit (used-short s)
       go false s = λ e. let z : _≡_ {A = ℕ} 0 1 = cc in omega arith
 
-  pop-fits : Fits 32 (popOutcome c)
-  unfolding popOutcome left
-  pop-fits = go (isSound c) refl (eqb (length (used c)) 0)
+  removal-fits : Fits limit (removalOutcome c)
+  unfolding removalOutcome left
+  removal-fits = go (isSound c) refl (eqb (length (used c)) 0)
     where
       go : (s : Bool) → isSound c ≡ s → (b : Bool)
-          → Fits 32 (pick s (pick b (refuses Empty) (writes (textOf (take (length (used c) - 1) (used c))))) (refuses Unsound))
+          → Fits limit (pick s (pick b (refuses Empty) (writes (textOf (take (length (used c) - 1) (used c))))) (refuses Unsound))
       go true s true = λ e. let z : _≡_ {A = ℕ} 0 1 = cc in omega arith
-      go true s false = text-short (length (used c) - 1) 32 (used c) (omega (arith, used-short s))
+      go true s false =
+          text-short (take (length (used c) - 1) (used c)) limit (omega (arith, used-short s, length-take (length (used c) - 1) (used c)))
       go false s b = λ e. let z : _≡_ {A = ℕ} 0 1 = cc in omega arith
 
-  pub text-room : (n : ℕ) → 32 ≤ n → answer (textOutcome c) n ≡ Refused Short → ⊥
-  text-room n h = enough (textOutcome c) 32 n text-fits h
+  pub text-room : (n : ℕ) → limit ≤ n → answer (textOutcome c) n ≡ Refused Short → ⊥
+  text-room n h = enough (textOutcome c) limit n text-fits h
 
-  pub pop-room : (n : ℕ) → 32 ≤ n → answer (popOutcome c) n ≡ Refused Short → ⊥
-  pop-room n h = enough (popOutcome c) 32 n pop-fits h
+  pub removal-room : (n : ℕ) → limit ≤ n → answer (removalOutcome c) n ≡ Refused Short → ⊥
+  removal-room n h = enough (removalOutcome c) limit n removal-fits h

@@ -9,8 +9,8 @@ use Rattle.p0_refusals.specs.Answers.{Outcome, writes, refuses, answer}
 use Rattle.p0_refusals.specs.declared.Refusal.the-variants.{Foreign, Full, Unsound}
 use Rattle.p1_letters.specs.Alphabet.{inAlphabet}
 use Rattle.p3_cells.specs.Cells.{limit, typed, isSound, used, holding}
-use Rattle.p3_cells.specs.Leaving.{changed}
-use Rattle.p3_cells.specs.declared.Changed.{Changed}
+use Rattle.p3_cells.specs.Leaving.{leaving}
+use Rattle.p3_cells.specs.declared.After.{After}
 use Rattle.p3_cells.specs.declared.Composition.{Composition}
 
 unfoldable pub literalOutcome : Composition → ℕ → Outcome
@@ -19,5 +19,5 @@ literalOutcome c ch =
     (pick (inAlphabet ch) (pick (ltb (length (used c)) limit) (writes []) (refuses Full)) (refuses Foreign))
     (refuses Unsound)
 
-unfoldable pub literal : Composition → ℕ → Changed
-literal c ch = changed (answer (literalOutcome c ch) 0) c (holding c (used c ++ (typed ch ∷ [])))
+unfoldable pub literal : Composition → ℕ → After
+literal c ch = leaving (answer (literalOutcome c ch) 0) c (holding c (used c ++ (typed ch ∷ [])))

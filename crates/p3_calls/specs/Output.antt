@@ -8,10 +8,10 @@ use Rattle.p0_choice.specs.Choice.{pick}
 use Rattle.p0_refusals.specs.Answers.{Outcome, writes, refuses, answer}
 use Rattle.p0_refusals.specs.declared.Refusal.the-variants.{Empty, Unsound}
 use Rattle.p3_cells.specs.Cells.{isSound, used, holding}
-use Rattle.p3_cells.specs.Leaving.{changed}
+use Rattle.p3_cells.specs.Leaving.{leaving}
 use Rattle.p3_cells.specs.Text.{textOf}
 use Rattle.p3_cells.specs.declared.Cell.{Cell}
-use Rattle.p3_cells.specs.declared.Changed.{Changed}
+use Rattle.p3_cells.specs.declared.After.{After}
 use Rattle.p3_cells.specs.declared.Composition.{Composition}
 
 -- ---- text
@@ -24,10 +24,10 @@ unfoldable pub left : Composition → List Cell
 left c = take (length (used c) - 1) (used c)
 
 -- "4: last cell to be removed, none there"
-unfoldable pub popOutcome : Composition → Outcome
-popOutcome c =
+unfoldable pub removalOutcome : Composition → Outcome
+removalOutcome c =
     pick (isSound c) (pick (eqb (length (used c)) 0) (refuses Empty) (writes (textOf (left c)))) (refuses Unsound)
 
 -- what it leaves, where the output has n places
-unfoldable pub popped : Composition → ℕ → Changed
-popped c n = changed (answer (popOutcome c) n) c (holding c (left c))
+unfoldable pub removed : Composition → ℕ → After
+removed c n = leaving (answer (removalOutcome c) n) c (holding c (left c))

@@ -10,8 +10,8 @@ use Rattle.p3_cells.specs.Cells.{limit, blanks, isSound}
 use Rattle.p3_cells.specs.declared.Composition.{Composition}
 use Rattle.p3_cells.specs.declared.Mode.{Mode}
 use Rattle.p3_cells.specs.declared.Mode.the-variants.{Vietnamese, English}
-use Rattle.p3_cells.specs.Leaving.{changed}
-use Rattle.p3_cells.specs.declared.Changed.{Changed}
+use Rattle.p3_cells.specs.Leaving.{leaving}
+use Rattle.p3_cells.specs.declared.After.{After}
 
 -- no cells
 unfoldable pub empty : InputMethod → Mode → Composition
@@ -25,17 +25,17 @@ unfoldable pub settled : Composition → Outcome
 settled c = pick (isSound c) (writes []) (refuses Unsound)
 
 -- "A reset empties the cells and keeps all else"
-unfoldable pub resetTo : Composition → Changed
-resetTo c = changed (answer (settled c) 0) c (empty (c .method) (c .mode))
+unfoldable pub resetTo : Composition → After
+resetTo c = leaving (answer (settled c) 0) c (empty (c .method) (c .mode))
 
 -- "setting the method empties them and keeps the mode"
-unfoldable pub methodSet : Composition → InputMethod → Changed
-methodSet c m = changed (answer (settled c) 0) c (empty m (c .mode))
+unfoldable pub methodSet : Composition → InputMethod → After
+methodSet c m = leaving (answer (settled c) 0) c (empty m (c .mode))
 
 -- "Turning to English empties them, always; turning to Vietnamese empties nothing."
 unfoldable pub turned : Composition → Bool → Composition
 turned c on =
     pick on (record { cells = c .cells; method = c .method; mode = Vietnamese; count = c .count }) (empty (c .method) English)
 
-unfoldable pub enabledSet : Composition → Bool → Changed
-enabledSet c on = changed (answer (settled c) 0) c (turned c on)
+unfoldable pub enabledSet : Composition → Bool → After
+enabledSet c on = leaving (answer (settled c) 0) c (turned c on)

@@ -3,24 +3,24 @@
 ghost use mathlib.Core.Path.{_≡_};
 ghost use lib.ListN.{length};
 ghost use Rattle.p0_refusals.specs.Answers.{answer, output};
-ghost use Rattle.p3_cells.specs.Leaving.{refused};
+ghost use Rattle.p3_cells.specs.Leaving.{refusing};
 ghost use Rattle.p3_calls.specs.Settings.{empty as emptyOf, created, resetTo, methodSet, enabledSet};
 ghost use Rattle.p3_calls.specs.Literal.{literal};
-ghost use Rattle.p3_calls.specs.Output.{textOutcome, popOutcome, popped};
+ghost use Rattle.p3_calls.specs.Output.{textOutcome, removalOutcome, removed};
 use p0_refusals::Answer;
 use p0_refusals::Refusal;
 use p1_letters as letters;
 use p2_input_method::InputMethod;
 use p3_cells as cells;
-use p3_cells::Changed;
+use p3_cells::After;
 use p3_cells::Composition;
 use p3_cells::LIMIT;
 use p3_cells::Mode;
 
-fn refuse(c: Composition, why: Refusal) -> Changed
-    ensures { λ r. ⌜ r ≡ refused c why ⌝ }
+fn refuse(c: Composition, why: Refusal) -> After
+    ensures { λ r. ⌜ r ≡ refusing c why ⌝ }
 {
-    Changed {
+    After {
         comp: c,
         answer: Answer::Refused(why),
     }
@@ -45,7 +45,7 @@ pub fn new(method: InputMethod) -> Composition
     empty(method, Mode::Vietnamese)
 }
 
-pub fn reset(c: Composition) -> Changed
+pub fn reset(c: Composition) -> After
     ensures { λ r. ⌜ r ≡ resetTo c ⌝ }
 {
     if !cells::sound(c) {
@@ -54,13 +54,13 @@ pub fn reset(c: Composition) -> Changed
     let m = c.method;
     let mode = c.mode;
     let d = empty(m, mode);
-    Changed {
+    After {
         comp: d,
         answer: Answer::Done(0),
     }
 }
 
-pub fn set_method(c: Composition, method: InputMethod) -> Changed
+pub fn set_method(c: Composition, method: InputMethod) -> After
     ensures { λ r. ⌜ r ≡ methodSet c method ⌝ }
 {
     if !cells::sound(c) {
@@ -68,14 +68,14 @@ pub fn set_method(c: Composition, method: InputMethod) -> Changed
     }
     let mode = c.mode;
     let d = empty(method, mode);
-    Changed {
+    After {
         comp: d,
         answer: Answer::Done(0),
     }
 }
 
 // Vietnamese where enabled, else English.
-pub fn set_enabled(c: Composition, enabled: bool) -> Changed
+pub fn set_enabled(c: Composition, enabled: bool) -> After
     ensures { λ r. ⌜ r ≡ enabledSet c enabled ⌝ }
 {
     if !cells::sound(c) {
@@ -84,7 +84,7 @@ pub fn set_enabled(c: Composition, enabled: bool) -> Changed
     let m = c.method;
     if !enabled {
         let d = empty(m, Mode::English);
-        return Changed {
+        return After {
             comp: d,
             answer: Answer::Done(0),
         };
@@ -97,13 +97,13 @@ pub fn set_enabled(c: Composition, enabled: bool) -> Changed
         mode: Mode::Vietnamese,
         count: n,
     };
-    Changed {
+    After {
         comp: d,
         answer: Answer::Done(0),
     }
 }
 
-pub fn append_literal(mut c: Composition, ch: u32) -> Changed
+pub fn append_literal(mut c: Composition, ch: u32) -> After
     ensures { λ r. ⌜ r ≡ literal c ch ⌝ }
 {
     if !cells::sound(c) {
@@ -119,14 +119,15 @@ pub fn append_literal(mut c: Composition, ch: u32) -> Changed
     let x = cells::typed(ch);
     c.cells[n] = x;
     c.count = n + 1;
-    Changed {
+    After {
         comp: c,
         answer: Answer::Done(0),
     }
 }
 
 pub fn get_output(c: Composition, out: &mut [u32]) -> Answer
-    ensures { λ r. ⌜ (r ≡ answer (textOutcome c) (length (now (out .entry)))) × (now (out .exit) ≡ output (textOutcome c) (now (out .entry))) ⌝ }
+    ensures { λ r. ⌜ (r ≡ answer (textOutcome c) (length (now (out .entry))))
+        × (now (out .exit) ≡ output (textOutcome c) (now (out .entry))) ⌝ }
 {
     if !cells::sound(c) {
         return Answer::Refused(Refusal::Unsound);
@@ -138,8 +139,8 @@ pub fn get_output(c: Composition, out: &mut [u32]) -> Answer
     Answer::Done(n)
 }
 
-pub fn pop_last(mut c: Composition, out: &mut [u32]) -> Changed
-    ensures { λ r. ⌜ (r ≡ popped c (length (now (out .entry)))) × (now (out .exit) ≡ output (popOutcome c) (now (out .entry))) ⌝ }
+pub fn pop_last(mut c: Composition, out: &mut [u32]) -> After
+    ensures { λ r. ⌜ (r ≡ removed c (length (now (out .entry)))) × (now (out .exit) ≡ output (removalOutcome c) (now (out .entry))) ⌝ }
 {
     if !cells::sound(c) {
         return refuse(c, Refusal::Unsound);
@@ -156,7 +157,7 @@ pub fn pop_last(mut c: Composition, out: &mut [u32]) -> Changed
     c.cells[m] = z;
     c.count = m;
     let w = cells::flatten(c, out);
-    Changed {
+    After {
         comp: c,
         answer: Answer::Done(w),
     }

@@ -1,25 +1,25 @@
--- A sound composition is its cells in use: what it holds, and how a store, an append and a removal in the array change
--- that. A composition of specs/ may have a list of any length, so that the array has all its places is a premise.
+-- A sound composition is its cells in use: what it holds, and how a store, an append and a removal in the array change it.
 use Prim.Native.Nat.{ℕ, zero, suc, _+_, _-_, _<_, _≤_}
 use mathlib.Core.Path.{_≡_, refl, sym, ap, _∙_}
 use mathlib.Core.Bool.{true}
 use mathlib.Core.List.{List, [], _∷_, _++_, append-assoc}
 use native.Mathlib.Omega.{arith}
-use lib.ListN.{length, getD, take, drop, set, length-append, length-drop, length-set, take-append-drop, drop-of-length-le, List·getD-append}
+use lib.ListN.{length, getD, take, drop, set, length-append, length-drop, length-take, length-set, take-append-drop}
+use lib.ListN.{drop-of-length-le, List·getD-append}
 use lib.Seq.{length-take-le, take-append-seam, getD-take, getD-drop, getD-append-add, set-append-left, set-split, set-at, ext-getD}
 use Rattle.p0_choice.specs.Choice.{each}
 use Rattle.p3_cells.specs.Cells.{limit, blank, blanks, isCell, isSound, used, holding}
 use Rattle.p3_cells.specs.declared.Cell.{Cell}
 use Rattle.p3_cells.specs.declared.Composition.{Composition}
 use Rattle.p0_choice.proofs.Tests.{each-at, at-each}
-use Rattle.p3_cells.proofs.Soundness.{sound-is, is-sound, cell-is, is-cell}
+use Rattle.p3_cells.proofs.Soundness.{sound-is, is-sound, cell-is, is-cell, sound-length}
 
 -- ---- blank cells
 pub length-blanks : (n : ℕ) → length (blanks n) ≡ n
 length-blanks zero = refl
 length-blanks (suc n) = ap suc (length-blanks n)
 
-blanks-at : (n i : ℕ) → getD (blanks n) i blank ≡ blank
+pub blanks-at : (n i : ℕ) → getD (blanks n) i blank ≡ blank
 blanks-at zero i = refl
 blanks-at (suc n) zero = refl
 blanks-at (suc n) (suc i) = blanks-at n i
@@ -29,6 +29,19 @@ blanks-are : (xs : List Cell) (n : ℕ) → length xs ≡ n → ((i : ℕ) → i
 blanks-are xs n e f =
     ext-getD blank xs (blanks n) (e ∙ sym (length-blanks n)) (λ i h. f i (omega arith) ∙ sym (blanks-at n i))
 
+-- ---- the cells in use
+pub used-count : (c : Composition) → c .count ≤ length (c .cells) → length (used c) ≡ c .count
+unfolding used
+used-count c h = length-take-le (c .count) (c .cells) h
+
+pub used-few : (c : Composition) → length (used c) ≤ c .count
+unfolding used
+used-few c = omega (arith, length-take (c .count) (c .cells))
+
+pub used-at : (c : Composition) (i : ℕ) → i < c .count → getD (used c) i blank ≡ getD (c .cells) i blank
+unfolding used
+used-at c i h = getD-take (c .count) (c .cells) i blank h
+
 module _ (c : Composition) (s : isSound c ≡ true) where
   pub count-fits : c .count ≤ limit
   count-fits = sound-is c s .few
@@ -36,36 +49,50 @@ module _ (c : Composition) (s : isSound c ≡ true) where
   pub cell-fits : (i : ℕ) → i < c .count → isCell (getD (c .cells) i blank) ≡ true
   cell-fits i h = is-cell (getD (c .cells) i blank) (sound-is c s .inUse i h)
 
-  -- ---- the cells in use
-  module _ (n : length (c .cells) ≡ limit) where
-    pub used-length : length (used c) ≡ c .count
-    unfolding used
-    used-length = let h = count-fits in length-take-le (c .count) (c .cells) (omega arith)
+  pub used-length : length (used c) ≡ c .count
+  used-length = used-count c (omega (arith, count-fits, sound-length c s))
 
-    rest-blank : drop (c .count) (c .cells) ≡ blanks (limit - c .count)
-    rest-blank =
-        let h = count-fits in
-        blanks-are (drop (c .count) (c .cells)) (limit - c .count) (rw length-drop (omega arith))
-        (λ i l. rw getD-drop (sound-is c s .past (c .count + i) (omega arith) (omega arith)))
+  rest-blank : drop (c .count) (c .cells) ≡ blanks (limit - c .count)
+  rest-blank =
+      let h = count-fits in
+      let n = sound-length c s in
+      blanks-are (drop (c .count) (c .cells)) (limit - c .count) (rw length-drop (omega arith))
+      (λ i l. rw getD-drop (sound-is c s .past (c .count + i) (omega arith) (omega arith)))
 
-    -- the array is the cells in use, and blank cells
-    parted : c .cells ≡ used c ++ blanks (limit - c .count)
-    unfolding used
-    parted = rw (← rest-blank) (sym (take-append-drop (c .count) (c .cells)))
+  -- the array is the cells in use, and blank cells
+  parted : c .cells ≡ used c ++ blanks (limit - c .count)
+  unfolding used
+  parted = rw (← rest-blank) (sym (take-append-drop (c .count) (c .cells)))
 
-    pub used-at : (i : ℕ) → i < c .count → getD (used c) i blank ≡ getD (c .cells) i blank
-    unfolding used
-    used-at i h = getD-take (c .count) (c .cells) i blank h
-
-    pub used-cells : each isCell (used c) ≡ true
-    used-cells = let u = used-length in at-each isCell blank (used c) (λ i h. rw (used-at i (omega arith)) (cell-fits i (omega arith)))
+  pub used-cells : each isCell (used c) ≡ true
+  used-cells = let u = used-length in at-each isCell blank (used c) (λ i h. rw (used-at c i (omega arith)) (cell-fits i (omega arith)))
 
 -- ---- what a composition holds
 -- d is c but for its cells, which are xs and blank ones
-made : (c : Composition) (xs cells : List Cell) (k : ℕ) → cells ≡ xs ++ blanks (limit - k) → length xs ≡ k
+pub made : (c : Composition) (xs cells : List Cell) (k : ℕ) → cells ≡ xs ++ blanks (limit - k) → length xs ≡ k
     → record { cells = cells; method = c .method; mode = c .mode; count = k } ≡ holding c xs
 unfolding holding
 made c xs cells k e l = rw (e, ← l) refl
+
+pub holding-again : (c : Composition) (xs ys : List Cell) → holding (holding c xs) ys ≡ holding c ys
+unfolding holding
+holding-again c xs ys = refl
+
+pub method-held : (c : Composition) (xs : List Cell) → holding c xs .method ≡ c .method
+unfolding holding
+method-held c xs = refl
+
+pub mode-held : (c : Composition) (xs : List Cell) → holding c xs .mode ≡ c .mode
+unfolding holding
+mode-held c xs = refl
+
+pub count-held : (c : Composition) (xs : List Cell) → holding c xs .count ≡ length xs
+unfolding holding
+count-held c xs = refl
+
+pub cells-held : (c : Composition) (xs : List Cell) → holding c xs .cells ≡ xs ++ blanks (limit - length xs)
+unfolding holding
+cells-held c xs = refl
 
 pub used-holding : (c : Composition) (xs : List Cell) → used (holding c xs) ≡ xs
 unfolding used holding
@@ -79,48 +106,56 @@ pub holding-sound : (c : Composition) (xs : List Cell) → length xs ≤ limit �
 unfolding holding
 holding-sound c xs h e =
     is-sound (holding c xs) (record {
+      whole = length-holding c xs h;
       few = h;
-      inUse = λ i l. rw (List·getD-append xs (blanks (limit - length xs)) blank i l) (cell-is (getD xs i blank) (each-at isCell blank xs e i l));
-      past = λ i l k. let d : i ≡ length xs + (i - length xs) = omega arith in rw (d, getD-append-add) (blanks-at (limit - length xs) (i - length xs));
+      inUse = λ i l. rw (List·getD-append xs (blanks (limit - length xs)) blank i l)
+          (cell-is (getD xs i blank) (each-at isCell blank xs e i l));
+      past = λ i l k. let d : i ≡ length xs + (i - length xs) = omega arith in
+          rw (d, getD-append-add) (blanks-at (limit - length xs) (i - length xs));
     })
 
-module _ (c : Composition) (s : isSound c ≡ true) (n : length (c .cells) ≡ limit) where
+module _ (c : Composition) (s : isSound c ≡ true) where
   pub holding-used : c ≡ holding c (used c)
-  holding-used = made c (used c) (c .cells) (c .count) (parted c s n) (used-length c s n)
+  holding-used = made c (used c) (c .cells) (c .count) (parted c s) (used-length c s)
 
   -- another cell at a place in use
   pub holding-set : (i : ℕ) (x : Cell) → i < c .count
       → record { cells = set (c .cells) i x; method = c .method; mode = c .mode; count = c .count } ≡ holding c (set (used c) i x)
   holding-set i x h =
-      let u = used-length c s n in
+      let u = used-length c s in
       made c (set (used c) i x) (set (c .cells) i x) (c .count)
-      (ap (λ (l : List Cell). set l i x) (parted c s n) ∙ set-append-left (used c) (blanks (limit - c .count)) i x (omega arith)) (length-set (used c) i x ∙ u)
+      (ap (λ (l : List Cell). set l i x) (parted c s) ∙ set-append-left (used c) (blanks (limit - c .count)) i x (omega arith))
+      (length-set (used c) i x ∙ u)
 
   -- one more cell
   pub holding-append : (x : Cell) → c .count < limit
-      → record { cells = set (c .cells) (c .count) x; method = c .method; mode = c .mode; count = c .count + 1 } ≡ holding c (used c ++ (x ∷ []))
+      → record { cells = set (c .cells) (c .count) x; method = c .method; mode = c .mode; count = c .count + 1 } ≡ holding c
+      (used c ++ (x ∷ []))
   holding-append x h =
-      let u = used-length c s n in
+      let u = used-length c s in
       let d : limit - c .count ≡ suc (limit - (c .count + 1)) = omega arith in
       made c (used c ++ (x ∷ [])) (set (c .cells) (c .count) x) (c .count + 1)
-      (ap (λ (l : List Cell). set l (c .count) x) (parted c s n ∙ ap (λ (m : ℕ). used c ++ blanks m) d)
-      ∙ set-at (used c) blank (blanks (limit - (c .count + 1))) x (c .count) u ∙ sym (append-assoc (used c) (x ∷ []) (blanks (limit - (c .count + 1)))))
+      (ap (λ (l : List Cell). set l (c .count) x) (parted c s ∙ ap (λ (m : ℕ). used c ++ blanks m) d)
+      ∙ set-at (used c) blank (blanks (limit - (c .count + 1))) x (c .count) u
+      ∙ sym (append-assoc (used c) (x ∷ []) (blanks (limit - (c .count + 1)))))
       (rw length-append (omega arith))
 
   -- one cell less, "Removing the last cell blanks it."
   pub holding-less : 0 < c .count
-      → record { cells = set (c .cells) (c .count - 1) blank; method = c .method; mode = c .mode; count = c .count - 1 } ≡ holding c (take (c .count - 1) (used c))
+      → record { cells = set (c .cells) (c .count - 1) blank; method = c .method; mode = c .mode; count = c .count - 1 } ≡ holding c
+      (take (c .count - 1) (used c))
   holding-less h =
-      let u = used-length c s n in
+      let u = used-length c s in
       let f = count-fits c s in
       let l : c .count - 1 < length (used c) = omega arith in
       let d : limit - (c .count - 1) ≡ suc (limit - c .count) = omega arith in
       let m : length (used c) ≤ suc (c .count - 1) = omega arith in
       let z : drop (suc (c .count - 1)) (used c) ≡ [] = drop-of-length-le (used c) m in
       made c (take (c .count - 1) (used c)) (set (c .cells) (c .count - 1) blank) (c .count - 1)
-      (ap (λ (l : List Cell). set l (c .count - 1) blank) (parted c s n)
+      (ap (λ (l : List Cell). set l (c .count - 1) blank) (parted c s)
       ∙ set-append-left (used c) (blanks (limit - c .count)) (c .count - 1) blank l
-      ∙ ap (λ (l : List Cell). l ++ blanks (limit - c .count)) (set-split (used c) (c .count - 1) blank l ∙ ap (λ (l : List Cell). take (c .count - 1) (used c) ++ blank ∷ l) z)
+      ∙ ap (λ (l : List Cell). l ++ blanks (limit - c .count))
+      (set-split (used c) (c .count - 1) blank l ∙ ap (λ (l : List Cell). take (c .count - 1) (used c) ++ blank ∷ l) z)
       ∙ append-assoc (take (c .count - 1) (used c)) (blank ∷ []) (blanks (limit - c .count))
       ∙ ap (λ (m : ℕ). take (c .count - 1) (used c) ++ blanks m) (sym d))
       (length-take-le (c .count - 1) (used c) (omega arith))

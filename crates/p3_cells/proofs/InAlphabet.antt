@@ -11,7 +11,8 @@ use Rattle.p0_choice.specs.Choice.{pick, among, each}
 use Rattle.p0_choice.specs.Text.{word}
 use Rattle.p0_choice.proofs.Choices.{pick-both}
 use Rattle.p0_choice.proofs.Tables.{each-among}
-use Rattle.p1_letters.specs.Alphabet.{smallBy32, smallBy1, smallHigh, smallNext, isSmall, isAsciiCapital, isCapital, inAlphabet, allLetters, asciiLower, asciiUpper}
+use Rattle.p1_letters.specs.Alphabet.{smallBy32, smallBy1, smallHigh, smallNext, isSmall, isAsciiCapital, isCapital, inAlphabet, allLetters}
+use Rattle.p1_letters.specs.Alphabet.{asciiLower, asciiUpper}
 use Rattle.p1_letters.specs.Tones.{toneRows, toneColumn, rowOf, toneFrom, toneOn}
 use Rattle.p1_letters.proofs.Alphabet.{every-letter, alphabet-ascii}
 use Rattle.p1_letters.proofs.ToneOn.{no-tone}
@@ -24,10 +25,12 @@ use Rattle.p3_cells.proofs.Made.{letter-base}
 use Rattle.p0_choice.proofs.Tests.{both-are, are-both, holds}
 
 tone-stays : (x t : ℕ) → inAlphabet x ≡ true → among t tones ≡ true → inAlphabet (toneOn x t) ≡ true
-unfolding smallBy32 smallBy1 smallHigh smallNext isSmall isAsciiCapital isCapital inAlphabet asciiLower toneRows toneColumn rowOf toneFrom toneOn tones word
+unfolding smallBy32 smallBy1 smallHigh smallNext isSmall isAsciiCapital isCapital inAlphabet asciiLower toneRows toneColumn rowOf toneFrom
+    toneOn tones word
 tone-stays x t e h =
     each-among (λ (k : ℕ). inAlphabet (toneOn x k)) tones
-    (holds (each (λ (k : ℕ). inAlphabet (toneOn x k)) tones) (every-letter (λ (y : ℕ). each (λ (k : ℕ). inAlphabet (toneOn y k)) tones) tt tt x e)) t h
+    (holds (each (λ (k : ℕ). inAlphabet (toneOn x k)) tones)
+    (every-letter (λ (y : ℕ). each (λ (k : ℕ). inAlphabet (toneOn y k)) tones) tt tt x e)) t h
 
 upper-stays : (x : ℕ) → inAlphabet x ≡ true → inAlphabet (asciiUpper x) ≡ true
 unfolding asciiUpper
@@ -41,14 +44,17 @@ unfolding tonedLetter
 toned-letter x e =
     let s : SoundCell x = cell-is x e in
     let b : inAlphabet (letterOf x) ≡ true = ap inAlphabet (letter-base x e) ∙ s .base in
-    ⊎-elim (λ (h : x .tone ≡ 0). ap inAlphabet (ap (λ (t : ℕ). toneOn (letterOf x) t) h ∙ no-tone (letterOf x)) ∙ b) (λ (h : among (x .tone) tones ≡ true). tone-stays (letterOf x) (x .tone) b h) (s .tone)
+    ⊎-elim (λ (h : x .tone ≡ 0). ap inAlphabet (ap (λ (t : ℕ). toneOn (letterOf x) t) h ∙ no-tone (letterOf x)) ∙ b)
+    (λ (h : among (x .tone) tones ≡ true). tone-stays (letterOf x) (x .tone) b h) (s .tone)
 
 shown-letter : (x : Cell) → isCell x ≡ true → inAlphabet (shown x) ≡ true
 unfolding shown
 shown-letter x e =
     let t = toned-letter x e in
-    pick-both (λ (y : ℕ). inAlphabet y ≡ true) (x .upper) (pick (isCapital (tonedLetter x)) (tonedLetter x) (asciiUpper (tonedLetter x))) (tonedLetter x)
-    (λ h. pick-both (λ (y : ℕ). inAlphabet y ≡ true) (isCapital (tonedLetter x)) (tonedLetter x) (asciiUpper (tonedLetter x)) (λ k. t) (λ k. upper-stays (tonedLetter x) t)) (λ h. t)
+    pick-both (λ (y : ℕ). inAlphabet y ≡ true) (x .upper) (pick (isCapital (tonedLetter x)) (tonedLetter x) (asciiUpper (tonedLetter x)))
+    (tonedLetter x)
+    (λ h. pick-both (λ (y : ℕ). inAlphabet y ≡ true) (isCapital (tonedLetter x)) (tonedLetter x) (asciiUpper (tonedLetter x)) (λ k. t)
+    (λ k. upper-stays (tonedLetter x) t)) (λ h. t)
 
 pub text-letters : (xs : List Cell) → each isCell xs ≡ true → allLetters (textOf xs) ≡ true
 unfolding textOf

@@ -11,32 +11,38 @@ use Rattle.p0_refusals.specs.declared.Refusal.{Refusal}
 use Rattle.p0_refusals.specs.declared.Refusal.the-variants.{Short}
 use Rattle.p0_refusals.proofs.Answers.{refuses-answer, short-answer, writes-answer}
 use Rattle.p3_cells.specs.declared.Composition.{Composition}
-use Rattle.p3_cells.specs.declared.Changed.{Changed}
-use Rattle.p3_cells.specs.Leaving.{changed, refused}
+use Rattle.p3_cells.specs.declared.After.{After}
+use Rattle.p3_cells.specs.Leaving.{leaving, refusing}
 
 -- the composition is c before, and d where the call is done; n places are lent
 module _ (w : Outcome) (c d : Composition) (n : ℕ) where
-  pub changed-refused : (r : Refusal) (k : Changed) → w ≡ refuses r → k ≡ refused c r → k ≡ changed (answer w n) c d
-  unfolding changed
-  changed-refused r k q e = rw (← refuses-answer w r q n) e
+  pub leaving-refused : (r : Refusal) (k : After) → w ≡ refuses r → k ≡ refusing c r → k ≡ leaving (answer w n) c d
+  unfolding leaving
+  leaving-refused r k q e = rw (← refuses-answer w r q n) e
 
-  pub changed-short : (xs : List ℕ) (k : Changed) → w ≡ writes xs → n < length xs → k ≡ refused c Short → k ≡ changed (answer w n) c d
-  unfolding changed
-  changed-short xs k q h e = rw (← short-answer w xs q n h) e
+  pub leaving-short : (xs : List ℕ) (k : After) → w ≡ writes xs → n < length xs → k ≡ refusing c Short → k ≡ leaving (answer w n) c d
+  unfolding leaving
+  leaving-short xs k q h e = rw (← short-answer w xs q n h) e
 
-  pub changed-done : (xs : List ℕ) (e : Composition) (k : ℕ) → w ≡ writes xs → length xs ≤ n → k ≡ length xs → e ≡ d
-      → record { comp = e; answer = Done k } ≡ changed (answer w n) c d
-  unfolding changed
-  changed-done xs e k q h l f = rw (← writes-answer w xs q n k h l, f) refl
+  pub leaving-done : (xs : List ℕ) (e : Composition) (k : ℕ) → w ≡ writes xs → length xs ≤ n → k ≡ length xs → e ≡ d
+      → record { comp = e; answer = Done k } ≡ leaving (answer w n) c d
+  unfolding leaving
+  leaving-done xs e k q h l f = rw (← writes-answer w xs q n k h l, f) refl
 
   -- a call that writes nothing
-  pub changed-nothing : (e : Composition) → w ≡ writes [] → e ≡ d → record { comp = e; answer = Done 0 } ≡ changed (answer w n) c d
-  changed-nothing e q f = changed-done [] e 0 q (omega arith) refl f
+  pub leaving-nothing : (e : Composition) → w ≡ writes [] → e ≡ d → record { comp = e; answer = Done 0 } ≡ leaving (answer w n) c d
+  leaving-nothing e q f = leaving-done [] e 0 q (omega arith) refl f
 
-pub ruleset leaves = (changed-refused, changed-short, changed-done, changed-nothing)
+pub ruleset leaves = (leaving-refused, leaving-short, leaving-done, leaving-nothing)
+
+-- where a call is done, what it makes is what it leaves
+pub done-leaves : (a : Answer) (c d : Composition) (k : ℕ) → leaving a c d .answer ≡ Done k → leaving a c d .comp ≡ d
+unfolding leaving
+done-leaves a c d k e = rw e refl
 
 -- what holds of the composition before, and of that of a call that is done, holds after
-pub changed-keeps : (P : Composition → Type 0) (a : Answer) (c d : Composition) → P c → ((n : ℕ) → a ≡ Done n → P d) → P (changed a c d .comp)
-unfolding changed
-changed-keeps P (Done n) c d old new = new n refl
-changed-keeps P (Refused r) c d old new = old
+pub leaving-keeps : (P : Composition → Type 0) (a : Answer) (c d : Composition) → P c → ((n : ℕ) → a ≡ Done n → P d)
+    → P (leaving a c d .comp)
+unfolding leaving
+leaving-keeps P (Done n) c d old new = new n refl
+leaving-keeps P (Refused r) c d old new = old

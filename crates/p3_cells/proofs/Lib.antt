@@ -5,3 +5,6 @@ pub mod SoundTest
 pub mod Text
 pub mod Leaving
 pub mod InAlphabet
+pub mod Only
+pub mod Row
+pub mod Fill

@@ -7,14 +7,15 @@ use mathlib.Core.List.{List, [], _∷_, _++_}
 use native.Mathlib.Omega.{arith}
 use native.Mathlib.Numerals.{add-one}
 use lib.Dec.{eqb}
-use lib.ListN.{getD}
+use lib.ListN.{length, getD}
 use borrow.Author.Tests.{eqb-true, eqb-false, eq-eqb, ne-eqb, le-leb, lt-leb, not-true, not-false}
-use Rattle.p0_choice.specs.Choice.{pick, among, each, count as from}
+use Rattle.p0_choice.specs.Choice.{pick, among, each, from}
 use Rattle.p0_choice.specs.Text.{word}
 use Rattle.p1_letters.specs.Alphabet.{inAlphabet}
 use Rattle.p2_input_method.specs.Rules.{toneKeys, isToneKey}
 use Rattle.p2_input_method.specs.declared.InputMethod.the-variants.{Telex, Vni}
-use Rattle.p3_cells.specs.Cells.{limit, blank, isBlank, weightOf, marks, tones, markFits, toneFits, isCell, fitsAt, isSound}
+use Rattle.p3_cells.specs.Cells.{limit, blank, isBlank, marks, tones, markFits, toneFits, isCell, fitsAt, isSound}
+use Rattle.p3_cells.specs.Mirror.{packedCell}
 use Rattle.p3_cells.specs.declared.Cell.{Cell}
 use Rattle.p3_cells.specs.declared.Composition.{Composition}
 use Rattle.p3_cells.proofs.Soundness.{fits-used, fits-past}
@@ -84,17 +85,18 @@ module _ (x : Cell) (v : Bool) (m : x .mark ≡ 0 → ⊥) (b : x .mark ≡ x .b
 abbrev light : Cell → ℕ
 light x = x .base + x .mark * 4294967296 + x .tone * 281474976710656
 
-pub weight-flagged : (x : Cell) → x .upper ≡ true → light x + 72057594037927936 ≡ weightOf x
-unfolding weightOf
-weight-flagged x u = rw u refl
+pub packed-flagged : (x : Cell) → x .upper ≡ true → light x + 72057594037927936 ≡ packedCell x
+unfolding packedCell
+packed-flagged x u = rw u refl
 
-pub weight-plain : (x : Cell) → x .upper ≡ false → light x ≡ weightOf x
-unfolding weightOf
-weight-plain x u = rw u (omega arith)
+pub packed-plain : (x : Cell) → x .upper ≡ false → light x ≡ packedCell x
+unfolding packedCell
+packed-plain x u = rw u (omega arith)
 
-pub weight-upper : (x : Cell) → x .upper ≡ true → eqb (light x + 72057594037927936) 0 ≡ isBlank x
+pub packed-upper : (x : Cell) → x .upper ≡ true → eqb (light x + 72057594037927936) 0 ≡ isBlank x
 unfolding isBlank
-weight-upper x u = ne-eqb (light x + 72057594037927936) 0 (λ e. omega arith) ∙ rw u (go (eqb (x .base) 0) (eqb (x .mark) 0) (eqb (x .tone) 0))
+packed-upper x u = ne-eqb (light x + 72057594037927936) 0 (λ e. omega arith)
+    ∙ rw u (go (eqb (x .base) 0) (eqb (x .mark) 0) (eqb (x .tone) 0))
   where
     go : (a b c : Bool) → false ≡ pick a (pick b (pick c false false) false) false
     go true true true = refl
@@ -102,11 +104,12 @@ weight-upper x u = ne-eqb (light x + 72057594037927936) 0 (λ e. omega arith) �
     go true false c = refl
     go false b c = refl
 
-pub weight-lower : (x : Cell) → x .upper ≡ false → eqb (light x) 0 ≡ isBlank x
+pub packed-lower : (x : Cell) → x .upper ≡ false → eqb (light x) 0 ≡ isBlank x
 unfolding isBlank
-weight-lower x u = rw u (go (eqb (x .base) 0) (eqb (x .mark) 0) (eqb (x .tone) 0) refl refl refl)
+packed-lower x u = rw u (go (eqb (x .base) 0) (eqb (x .mark) 0) (eqb (x .tone) 0) refl refl refl)
   where
-    go : (a b c : Bool) → eqb (x .base) 0 ≡ a → eqb (x .mark) 0 ≡ b → eqb (x .tone) 0 ≡ c → eqb (light x) 0 ≡ pick a (pick b (pick c true false) false) false
+    go : (a b c : Bool) → eqb (x .base) 0 ≡ a → eqb (x .mark) 0 ≡ b → eqb (x .tone) 0 ≡ c
+        → eqb (light x) 0 ≡ pick a (pick b (pick c true false) false) false
     go true true true p q r = eq-eqb (light x) 0 (omega (arith, eqb-true (x .base) 0 p, eqb-true (x .mark) 0 q, eqb-true (x .tone) 0 r))
     go true true false p q r = ne-eqb (light x) 0 (λ e. eqb-false (x .tone) 0 r (omega arith))
     go true false c p q r = ne-eqb (light x) 0 (λ e. eqb-false (x .mark) 0 q (omega arith))
@@ -116,19 +119,20 @@ weight-lower x u = rw u (go (eqb (x .base) 0) (eqb (x .mark) 0) (eqb (x .tone) 0
 unfoldable pub fitsFrom : Composition → ℕ → Bool
 fitsFrom c i = each (fitsAt (c .cells) (c .count)) (from (limit - i) i)
 
-turn : (c : Composition) (i : ℕ) → i < limit → fitsFrom c i ≡ pick (fitsAt (c .cells) (c .count) i) (fitsFrom c (i + 1)) false
+pub turn : (c : Composition) (i : ℕ) → i < limit → fitsFrom c i ≡ pick (fitsAt (c .cells) (c .count) i) (fitsFrom c (i + 1)) false
 unfolding fitsFrom
 turn c i l = let e : limit - i ≡ suc (limit - (i + 1)) = omega arith in rw (e, add-one i) refl
 
 pub sound-long : (c : Composition) → limit < c .count → false ≡ isSound c
 unfolding isSound
-sound-long c l = rw (lt-leb (c .count) limit l) refl
+sound-long c l = rw (lt-leb (c .count) limit l) (none (eqb (length (c .cells)) limit))
 
-pub sound-start : (c : Composition) → c .count ≤ limit → isSound c ≡ fitsFrom c 0
+pub sound-start : (c : Composition) → length (c .cells) ≡ limit → c .count ≤ limit → isSound c ≡ fitsFrom c 0
 unfolding isSound fitsFrom
-sound-start c l = rw (le-leb (c .count) limit l) refl
+sound-start c n l = rw (eq-eqb (length (c .cells)) limit n, le-leb (c .count) limit l) refl
 
-module _ (c : Composition) (s v : Bool) (i : ℕ) (e : s ≡ fitsFrom c i) (l : i < c .count) (h : c .count ≤ limit) (p : v ≡ isCell (getD (c .cells) i blank)) where
+module _ (c : Composition) (s v : Bool) (i : ℕ) (e : s ≡ fitsFrom c i) (l : i < c .count) (h : c .count ≤ limit)
+    (p : v ≡ isCell (getD (c .cells) i blank)) where
   step : s ≡ pick v (fitsFrom c (i + 1)) false
   step = e ∙ turn c i (omega arith) ∙ ap (λ (b : Bool). pick b (fitsFrom c (i + 1)) false) (fits-used (c .cells) (c .count) i l ∙ sym p)
 
@@ -142,11 +146,12 @@ module _ (c : Composition) (s v : Bool) (i : ℕ) (e : s ≡ fitsFrom c i) (l : 
 pub past-start : (c : Composition) (s : Bool) (i : ℕ) → s ≡ fitsFrom c i → s ≡ pick (eqb 0 0) (fitsFrom c i) false
 past-start c s i e = e
 
-heavy : (a : ℕ) (b : Bool) → (a ≡ 0 → ⊥) → pick (eqb a 0) b false ≡ false
+pub heavy : (a : ℕ) (b : Bool) → (a ≡ 0 → ⊥) → pick (eqb a 0) b false ≡ false
 heavy a b h = rw (ne-eqb a 0 h) refl
 
 module _ (c : Composition) (s : Bool) (i t : ℕ) (e : s ≡ pick (eqb t 0) (fitsFrom c i) false) where
-  pub past-on : (w : ℕ) → c .count ≤ i → i < limit → eqb w 0 ≡ isBlank (getD (c .cells) i blank) → s ≡ pick (eqb (t + w) 0) (fitsFrom c (i + 1)) false
+  pub past-on : (w : ℕ) → c .count ≤ i → i < limit → eqb w 0 ≡ isBlank (getD (c .cells) i blank)
+      → s ≡ pick (eqb (t + w) 0) (fitsFrom c (i + 1)) false
   past-on w l h q = go t e
     where
       go : (t : ℕ) → s ≡ pick (eqb t 0) (fitsFrom c i) false → s ≡ pick (eqb (t + w) 0) (fitsFrom c (i + 1)) false

@@ -60,12 +60,14 @@ more (x ∷ xs) [] i h l = absurd (omega arith)
 more (x ∷ xs) (y ∷ o) zero h l = refl
 more (x ∷ xs) (y ∷ o) (suc i) h l = ap (λ (t : List ℕ). shown x ∷ t) (more xs o i (omega arith) (omega arith))
 
-pub written-more : (c : Composition) (o out : List ℕ) (i v : ℕ) → out ≡ writtenTo c i o → v ≡ shown (getD (c .cells) i blank) → length (c .cells) ≡ limit
+pub written-more : (c : Composition) (o out : List ℕ) (i v : ℕ) → out ≡ writtenTo c i o → v ≡ shown (getD (c .cells) i blank)
+    → length (c .cells) ≡ limit
     → i < c .count → c .count ≤ limit → c .count ≤ length o → set out i v ≡ writtenTo c (i + 1) o
 unfolding writtenTo textOf
 written-more c o out i v e q n h l m = rw (e, q, add-one i) (more (c .cells) o i (omega arith) (omega arith))
 
-pub written-all : (c : Composition) (o out : List ℕ) (i : ℕ) → out ≡ writtenTo c i o → i ≤ c .count → c .count ≤ i → out ≡ textOf (used c) ++ drop (c .count) o
+pub written-all : (c : Composition) (o out : List ℕ) (i : ℕ) → out ≡ writtenTo c i o → i ≤ c .count → c .count ≤ i
+    → out ≡ textOf (used c) ++ drop (c .count) o
 unfolding writtenTo used
 written-all c o out i e l h = let d : i ≡ c .count = omega arith in rw (← d) e
 

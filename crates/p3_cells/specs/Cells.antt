@@ -1,10 +1,10 @@
 -- Document 01, "The alphabet and the numbers", second paragraph: the composition, and when it is sound.
-use Prim.Native.Nat.{ℕ, zero, suc, _+_, _-_, _*_}
+use Prim.Native.Nat.{ℕ, zero, suc, _-_}
 use mathlib.Core.Bool.{Bool, true, false}
 use mathlib.Core.List.{List, [], _∷_, _++_}
 use lib.Dec.{eqb, ltb, leb}
 use lib.ListN.{length, getD, take}
-use Rattle.p0_choice.specs.Choice.{pick, among, each, count as from}
+use Rattle.p0_choice.specs.Choice.{pick, among, each, from}
 use Rattle.p0_choice.specs.Text.{word}
 use Rattle.p1_letters.specs.Alphabet.{inAlphabet, isCapital}
 use Rattle.p3_cells.specs.declared.Cell.{Cell}
@@ -20,10 +20,6 @@ blank = record { base = 0; mark = 0; tone = 0; upper = false }
 
 unfoldable pub isBlank : Cell → Bool
 isBlank x = pick (eqb (x .base) 0) (pick (eqb (x .mark) 0) (pick (eqb (x .tone) 0) (pick (x .upper) false true) false) false) false
-
--- a cell as one number, as the code asks whether it is blank: its fields side by side
-unfoldable pub weightOf : Cell → ℕ
-weightOf x = x .base + x .mark * 4294967296 + x .tone * 281474976710656 + pick (x .upper) 72057594037927936 0
 
 -- "one of ă â ê ô ơ ư đ"
 unfoldable pub marks : List ℕ
@@ -47,9 +43,11 @@ isCell x = pick (inAlphabet (x .base)) (pick (markFits x) (toneFits x) false) fa
 unfoldable pub fitsAt : List Cell → ℕ → ℕ → Bool
 fitsAt cells n i = pick (ltb i n) (isCell (getD cells i blank)) (isBlank (getD cells i blank))
 
--- "Sound: count at most 32" and every cell fits
+-- "Sound: count at most 32" and every cell fits; "at most 32 cells": the array has a place for each, and no more
 unfoldable pub isSound : Composition → Bool
-isSound c = pick (leb (c .count) limit) (each (fitsAt (c .cells) (c .count)) (from limit 0)) false
+isSound c =
+    pick (eqb (length (c .cells)) limit) (pick (leb (c .count) limit) (each (fitsAt (c .cells) (c .count)) (from limit 0)) false)
+    false
 
 -- *Append* "the letter as typed, flag on if capital": the cell of a letter
 unfoldable pub typed : ℕ → Cell

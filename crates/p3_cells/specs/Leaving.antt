@@ -4,11 +4,11 @@ use Rattle.p0_refusals.specs.declared.Answer.{Answer}
 use Rattle.p0_refusals.specs.declared.Answer.the-variants.{Refused}
 use Rattle.p0_refusals.specs.declared.Refusal.{Refusal}
 use Rattle.p3_cells.specs.declared.Composition.{Composition}
-use Rattle.p3_cells.specs.declared.Changed.{Changed}
+use Rattle.p3_cells.specs.declared.After.{After}
 
 -- c before, d where the call is done
-unfoldable pub changed : Answer → Composition → Composition → Changed
-changed a c d = record { comp = unless a c d; answer = a }
+unfoldable pub leaving : Answer → Composition → Composition → After
+leaving a c d = record { comp = unless a c d; answer = a }
 
-abbrev pub refused : Composition → Refusal → Changed
-refused c r = record { comp = c; answer = Refused r }
+abbrev pub refusing : Composition → Refusal → After
+refusing c r = record { comp = c; answer = Refused r }

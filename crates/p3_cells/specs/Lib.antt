@@ -2,4 +2,6 @@ pub mod Cells
 pub mod Soundness
 pub mod Text
 pub mod Leaving
-pub mod Places
+pub mod Place
+pub mod Row
+pub mod Mirror

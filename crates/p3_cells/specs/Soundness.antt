@@ -4,7 +4,7 @@ use Prim.Native.Nat.{ℕ, _<_, _≤_}
 use mathlib.Core.Path.{_≡_}
 use mathlib.Core.Bool.{true}
 use mathlib.Core.Logic.{_⊎_}
-use lib.ListN.{getD}
+use lib.ListN.{length, getD}
 use Rattle.p0_choice.specs.Choice.{among}
 use Rattle.p1_letters.specs.Alphabet.{inAlphabet}
 use Rattle.p3_cells.specs.Cells.{limit, blank, marks, tones}
@@ -17,8 +17,10 @@ pub record SoundCell (x : Cell) : Type 0 where
   pub mark : (x .mark ≡ 0) ⊎ ((x .mark ≡ x .base) × (among (x .mark) marks ≡ true))
   pub tone : (x .tone ≡ 0) ⊎ (among (x .tone) tones ≡ true)
 
--- "Sound: count at most 32; [each cell as above]; every cell past the count blank"
+-- "A composition holds at most 32 cells": its array has a place for each, and no more. "Sound: count at most 32; [each
+-- cell as above]; every cell past the count blank"
 pub record Sound (c : Composition) : Type 0 where
+  pub whole : length (c .cells) ≡ limit
   pub few : c .count ≤ limit
   pub inUse : (i : ℕ) → i < c .count → SoundCell (getD (c .cells) i blank)
   pub past : (i : ℕ) → c .count ≤ i → i < limit → getD (c .cells) i blank ≡ blank

@@ -1,12 +1,14 @@
-// A composition: at most 32 cells, a method and a mode, by value (bamboo.rs), its soundness and its text. The count
-// comes last, so that the cells can be copied as one block of 256 bytes.
+// A composition: at most LIMIT cells, a method and a mode, by value (bamboo.rs), its soundness and its text. The count
+// comes last, so that the cells can be copied as one block.
 ghost use mathlib.Core.Path.{_≡_};
 ghost use mathlib.Core.List.{_++_};
 ghost use Prim.Native.Nat.{_<_, _≤_, _^_};
 ghost use lib.Dec.{eqb};
 ghost use lib.ListN.{length, drop};
 ghost use Rattle.p0_choice.specs.Choice.{among};
-ghost use Rattle.p3_cells.specs.Cells.{limit, blank as blankCell, isBlank, marks, toneFits, isCell, typed as typedCell, isSound, weightOf, used};
+ghost use Rattle.p3_cells.specs.Cells.{limit, blank as blankCell, isBlank, marks, toneFits, isCell, typed as typedCell, isSound};
+ghost use Rattle.p3_cells.specs.Cells.{used};
+ghost use Rattle.p3_cells.specs.Mirror.{packedCell};
 ghost use Rattle.p3_cells.specs.Text.{letterOf, tonedLetter, shown as shownOf, textOf};
 use p0_refusals::Answer;
 use p1_letters as letters;
@@ -42,7 +44,7 @@ pub enum Place {
 }
 
 // What a call leaves: the composition, and its answer.
-pub struct Changed {
+pub struct After {
     pub comp: Composition,
     pub answer: Answer,
 }
@@ -119,8 +121,8 @@ pub fn is_cell(x: Cell) -> bool
 }
 
 // A cell as one number, 0 for a blank cell alone: one load of 8 bytes.
-pub fn weight(x: Cell) -> u64
-    ensures { λ r. ⌜ (r ≡ weightOf x) × (eqb r 0 ≡ isBlank x) × (r < 2 ^ 57) ⌝ }
+pub fn packed(x: Cell) -> u64
+    ensures { λ r. ⌜ (r ≡ packedCell x) × (eqb r 0 ≡ isBlank x) × (r < 2 ^ 57) ⌝ }
 {
     let b = x.base as u64;
     let m = x.mark as u64;
@@ -151,7 +153,7 @@ pub fn sound(c: Composition) -> bool
     let mut t: u64 = 0;
     while i < LIMIT {
         let x = c.cells[i];
-        let w = weight(x);
+        let w = packed(x);
         t += w;
         i += 1;
     }

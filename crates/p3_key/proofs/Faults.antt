@@ -4,18 +4,17 @@ use mathlib.Core.Path.{_≡_, refl, sym, ap, _∙_}
 use mathlib.Core.Bool.{Bool, true, false}
 use mathlib.Core.Logic.{inl}
 use native.Mathlib.Omega.{arith}
-use native.Mathlib.Numerals.{add-one}
 use lib.Dec.{eqb, ltb}
-use lib.ListN.{getD}
-use borrow.Author.Tests.{ne-eqb, lt-ltb, ltb-true, ltb-false}
+use lib.ListN.{length, getD}
+use borrow.Author.Tests.{lt-ltb, ltb-true, ltb-false}
 use Rattle.p0_choice.specs.Choice.{pick}
 use Rattle.p1_letters.specs.Alphabet.{inAlphabet}
 use Rattle.p3_cells.specs.Cells.{limit, blank, isBlank, isCell, fitsAt, isSound}
 use Rattle.p3_cells.specs.declared.Cell.{Cell}
 use Rattle.p3_cells.specs.declared.Composition.{Composition}
 use Rattle.p3_cells.proofs.Soundness.{fits-used, fits-past, is-cell}
-use Rattle.p3_cells.proofs.SoundTest.{fitsFrom, sound-long, sound-start}
-use Rattle.p3_key.specs.Edit.{soundBy}
+use Rattle.p3_cells.proofs.SoundTest.{fitsFrom, turn, sound-long, sound-start, heavy}
+use Rattle.p3_key.specs.Mirror.{soundBy}
 
 -- ---- a cell's fault
 -- an ASCII letter alone
@@ -30,13 +29,6 @@ pub other-fault : (x : Cell) (v : Bool) → v ≡ isCell x → v ≡ false → e
 other-fault x v e t = sym (sym e ∙ t)
 
 -- ---- the sum of faults, t, up to the place i: with what stands from there on it says whether every cell fits
-turn : (c : Composition) (i : ℕ) → i < limit → fitsFrom c i ≡ pick (fitsAt (c .cells) (c .count) i) (fitsFrom c (i + 1)) false
-unfolding fitsFrom
-turn c i l = let e : limit - i ≡ suc (limit - (i + 1)) = omega arith in rw (e, add-one i) refl
-
-heavy : (a : ℕ) (b : Bool) → (a ≡ 0 → ⊥) → pick (eqb a 0) b false ≡ false
-heavy a b h = rw (ne-eqb a 0 h) refl
-
 unfoldable pub faultsBy : Composition → ℕ → ℕ → Bool
 faultsBy c t i = pick (eqb t 0) (fitsFrom c i) false
 
@@ -51,10 +43,12 @@ unfolding faultsBy
 faults-none c = refl
 
 module _ (c : Composition) (t i w u : ℕ) (e : fitsFrom c 0 ≡ faultsBy c t i) where
-  pub faults-used : u ≡ min (c .count) limit → i < u → eqb w 0 ≡ isCell (getD (c .cells) i blank) → fitsFrom c 0 ≡ faultsBy c (t + w) (i + 1)
+  pub faults-used : u ≡ min (c .count) limit → i < u → eqb w 0 ≡ isCell (getD (c .cells) i blank)
+      → fitsFrom c 0 ≡ faultsBy c (t + w) (i + 1)
   faults-used h l q = e ∙ more c t i w (omega arith) (q ∙ sym (fits-used (c .cells) (c .count) i (omega arith)))
 
-  pub faults-past : u ≡ min (c .count) limit → u ≤ i → i < limit → eqb w 0 ≡ isBlank (getD (c .cells) i blank) → fitsFrom c 0 ≡ faultsBy c (t + w) (i + 1)
+  pub faults-past : u ≡ min (c .count) limit → u ≤ i → i < limit → eqb w 0 ≡ isBlank (getD (c .cells) i blank)
+      → fitsFrom c 0 ≡ faultsBy c (t + w) (i + 1)
   faults-past h l m q = e ∙ more c t i w m (q ∙ sym (fits-past (c .cells) (c .count) i (omega arith)))
 
 all-fit : (c : Composition) (t i : ℕ) → fitsFrom c 0 ≡ faultsBy c t i → limit ≤ i → eqb t 0 ≡ fitsFrom c 0
@@ -65,15 +59,16 @@ all-fit c t i e l = let d : limit - i ≡ 0 = omega arith in sym (rw d at e ∙ 
     same true = refl
     same false = refl
 
-tested : (c : Composition) (t i : ℕ) → fitsFrom c 0 ≡ faultsBy c t i → limit ≤ i → pick (ltb limit (c .count)) false (eqb t 0) ≡ isSound c
-tested c t i e l = go (ltb limit (c .count)) refl
+tested : (c : Composition) (t i : ℕ) → length (c .cells) ≡ limit → fitsFrom c 0 ≡ faultsBy c t i → limit ≤ i
+    → pick (ltb limit (c .count)) false (eqb t 0) ≡ isSound c
+tested c t i n e l = go (ltb limit (c .count)) refl
   where
     go : (b : Bool) → ltb limit (c .count) ≡ b → pick b false (eqb t 0) ≡ isSound c
     go true q = sound-long c (ltb-true limit (c .count) q)
-    go false q = all-fit c t i e l ∙ sym (sound-start c (ltb-false limit (c .count) q))
+    go false q = all-fit c t i e l ∙ sym (sound-start c n (ltb-false limit (c .count) q))
 
-pub faults-sound : (c : Composition) (t i : ℕ) (trusted s : Bool) → fitsFrom c 0 ≡ faultsBy c t i → limit ≤ i → (trusted ≡ true → isSound c ≡ true) → s ≡ soundBy trusted (c .count) t
-    → s ≡ isSound c
+pub faults-sound : (c : Composition) (t i : ℕ) (trusted s : Bool) → length (c .cells) ≡ limit → fitsFrom c 0 ≡ faultsBy c t i → limit ≤ i
+    → (trusted ≡ true → isSound c ≡ true) → s ≡ soundBy trusted (c .count) t → s ≡ isSound c
 unfolding soundBy
-faults-sound c t i true s e l h q = q ∙ sym (h refl)
-faults-sound c t i false s e l h q = q ∙ tested c t i e l
+faults-sound c t i true s n e l h q = q ∙ sym (h refl)
+faults-sound c t i false s n e l h q = q ∙ tested c t i n e l

@@ -1,4 +1,4 @@
--- A key keeps a composition sound, and its array full of places: after any keys it can be handed in again.
+-- A key keeps a composition sound: after any keys it can be handed in again.
 use Prim.Native.Nat.{ℕ, _≤_}
 use mathlib.Core.Path.{_≡_, refl, sym, _∙_}
 use mathlib.Core.Bool.{Bool, true, false}
@@ -15,10 +15,10 @@ use Rattle.p3_cells.specs.Cells.{limit, isCell, isSound, used, holding}
 use Rattle.p3_cells.specs.declared.Composition.{Composition}
 use Rattle.p3_cells.specs.declared.Mode.{Mode}
 use Rattle.p3_cells.specs.declared.Mode.the-variants.{Vietnamese, English}
-use Rattle.p3_cells.proofs.Holding.{used-cells, holding-sound, length-holding}
-use Rattle.p3_cells.proofs.Leaving.{changed-keeps}
+use Rattle.p3_cells.proofs.Holding.{used-cells, holding-sound}
+use Rattle.p3_cells.proofs.Leaving.{leaving-keeps}
 use Rattle.p3_step.proofs.Sound.{key-cells-kept}
-use Rattle.p3_key.specs.Process.{inMode, next, written, isFull, keyOutcome, keyNext, keyed}
+use Rattle.p3_key.specs.Process.{inMode, nextCells, writtenFor, isFull, keyOutcome, keyNext, keyed}
 
 -- what an answer that is no refusal says of the key
 pub record Taken (c : Composition) (key : ℕ) : Type 0 where
@@ -30,36 +30,33 @@ unfolding keyOutcome answer
 taken c key n k e = go (isSound c) (inAlphabet key) (isFull c key) refl refl e
   where
     go : (s a f : Bool) → inAlphabet key ≡ a → isFull c key ≡ f
-        → answer (pick s (pick a (pick f (refuses Full) (writes (written c key))) (refuses Foreign)) (refuses Unsound)) n ≡ Done k → Taken c key
+        → answer (pick s (pick a (pick f (refuses Full) (writes (writtenFor c key))) (refuses Foreign)) (refuses Unsound)) n ≡ Done k
+        → Taken c key
     go false a f p q e = let z : _≡_ {A = ℕ} 0 1 = cc in absurd (omega arith)
     go true false f p q e = let z : _≡_ {A = ℕ} 0 1 = cc in absurd (omega arith)
     go true true true p q e = let z : _≡_ {A = ℕ} 0 1 = cc in absurd (omega arith)
     go true true false p q e = record { letter = p; room = q }
 
-module _ (c : Composition) (key n : ℕ) (s : isSound c ≡ true) (h : length (c .cells) ≡ limit) where
+module _ (c : Composition) (key n : ℕ) (s : isSound c ≡ true) where
   -- in Vietnamese mode: the cells after the key are few enough, and fit
-  few : c .mode ≡ Vietnamese → isFull c key ≡ false → length (next c key) ≤ limit
+  few : c .mode ≡ Vietnamese → isFull c key ≡ false → length (nextCells c key) ≤ limit
   unfolding isFull
-  few m f = ltb-false limit (length (next c key)) (sym (by (c .mode) m) ∙ f)
+  few m f = ltb-false limit (length (nextCells c key)) (sym (by (c .mode) m) ∙ f)
     where
-      by : (o : Mode) → o ≡ Vietnamese → inMode o (ltb limit (length (next c key))) false ≡ ltb limit (length (next c key))
+      by : (o : Mode) → o ≡ Vietnamese → inMode o (ltb limit (length (nextCells c key))) false ≡ ltb limit (length (nextCells c key))
       by o e = rw e refl
 
-  fit : inAlphabet key ≡ true → each isCell (next c key) ≡ true
-  unfolding next
-  fit a = key-cells-kept (c .method) (used c) (used-cells c s h) key a
-
-  -- either the composition stays, or it holds the cells after the key
-  cases : (P : Composition → Type 0) → P c → (length (next c key) ≤ limit → each isCell (next c key) ≡ true → P (holding c (next c key))) → P (keyed c key n .comp)
-  unfolding keyed keyNext
-  cases P old new = changed-keeps P (answer (keyOutcome c key) n) c _ old (λ k e. go (c .mode) refl (taken c key n k e))
-    where
-      go : (o : Mode) → c .mode ≡ o → Taken c key → P (inMode o (holding c (next c key)) c)
-      go English m t = old
-      go Vietnamese m t = new (few m (t .room)) (fit (t .letter))
-
-  pub key-length : length (keyed c key n .comp .cells) ≡ limit
-  key-length = cases (λ (d : Composition). length (d .cells) ≡ limit) h (λ l f. length-holding c (next c key) l)
+  fit : inAlphabet key ≡ true → each isCell (nextCells c key) ≡ true
+  unfolding nextCells
+  fit a = key-cells-kept (c .method) (used c) (used-cells c s) key a
 
   pub key-sound : isSound (keyed c key n .comp) ≡ true
-  key-sound = cases (λ (d : Composition). isSound d ≡ true) s (λ l f. holding-sound c (next c key) l f)
+  unfolding keyed keyNext
+  key-sound =
+      leaving-keeps (λ (d : Composition). isSound d ≡ true) (answer (keyOutcome c key) n) c _ s
+      (λ k e. go (c .mode) refl (taken c key n k e))
+    where
+      -- either the composition stays, or it holds the cells after the key
+      go : (o : Mode) → c .mode ≡ o → Taken c key → isSound (inMode o (holding c (nextCells c key)) c) ≡ true
+      go English m t = s
+      go Vietnamese m t = holding-sound c (nextCells c key) (few m (t .room)) (fit (t .letter))

@@ -10,7 +10,7 @@ use Rattle.p3_cells.specs.Text.{shown}
 use Rattle.p3_cells.specs.declared.Cell.{Cell}
 use Rattle.p3_cells.specs.declared.Mode.{Mode}
 use Rattle.p3_cells.specs.declared.Mode.the-variants.{Vietnamese, English}
-use Rattle.p3_key.specs.Edit.{letterFor}
+use Rattle.p3_key.specs.Mirror.{letterFor}
 
 pub letter-shown : (m : Mode) (key r : ℕ) (z : Cell) → m ≡ Vietnamese → r ≡ shown z → r ≡ letterFor m key z
 unfolding letterFor
@@ -24,9 +24,9 @@ letter-key m key z e = rw e refl
 unfoldable pub lettersTo : Mode → ℕ → List Cell → ℕ → List ℕ → List ℕ
 lettersTo m key cells j o = map (letterFor m key) (take j cells) ++ drop j o
 
-pub letters-none : (m : Mode) (key : ℕ) (cells : List Cell) (o : List ℕ) → o ≡ lettersTo m key cells 0 o
+pub no-letters-yet : (m : Mode) (key : ℕ) (cells : List Cell) (o : List ℕ) → o ≡ lettersTo m key cells 0 o
 unfolding lettersTo
-letters-none m key cells o = refl
+no-letters-yet m key cells o = refl
 
 more : (f : Cell → ℕ) (xs : List Cell) (o : List ℕ) (j : ℕ) → j < length xs → j < length o
     → set (map f (take j xs) ++ drop j o) j (f (getD xs j blank)) ≡ map f (take (suc j) xs) ++ drop (suc j) o

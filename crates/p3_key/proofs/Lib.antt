@@ -1,8 +1,9 @@
 pub mod Faults
-pub mod Edits
+pub mod Strokes
 pub mod Letters
 pub mod Right
 pub mod Owner
 pub mod Kept
 pub mod Only
 pub mod Room
+pub mod Frame

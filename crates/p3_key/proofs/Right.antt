@@ -1,4 +1,4 @@
--- What the owner does is document 01's key call: the answer, the composition and the output that an edit leaves are those
+-- What the owner does is document 01's key call: the answer, the composition and the output that an stroke leaves are those
 -- of the definitions.
 use Prim.Native.Nat.{ℕ, zero, suc, _-_, _<_, _≤_}
 use mathlib.Core.Path.{_≡_, refl, sym, ap, _∙_}
@@ -17,37 +17,45 @@ use Rattle.p3_cells.specs.Cells.{limit, blank, blanks, isSound, used, holding}
 use Rattle.p3_cells.specs.Text.{shown, textOf}
 use Rattle.p0_refusals.specs.Answers.{writes, refuses, answer, onto, output}
 use Rattle.p0_refusals.proofs.Answers.{refuses-answer, short-answer, writes-answer, writes-output}
-use Rattle.p3_cells.specs.Leaving.{changed}
+use Rattle.p3_cells.specs.Leaving.{leaving}
 use Rattle.p3_cells.specs.declared.Cell.{Cell}
 use Rattle.p3_cells.specs.declared.Composition.{Composition}
 use Rattle.p3_cells.specs.declared.Mode.{Mode}
 use Rattle.p3_cells.specs.declared.Mode.the-variants.{Vietnamese, English}
 use Rattle.p0_refusals.specs.declared.Answer.the-variants.{Done, Refused}
-use Rattle.p3_cells.proofs.Holding.{length-blanks, count-fits, used-length, used-cells, holding-used}
-use Rattle.p3_row.specs.Row.{rowCells, bases}
+use Rattle.p3_cells.proofs.Holding.{length-blanks, count-fits, used-length, used-cells, made, cells-held, holding-used}
+use Rattle.p3_cells.proofs.Soundness.{sound-length}
+use Rattle.p3_cells.specs.Row.{bases}
+use Rattle.p3_cells.specs.Mirror.{rowCells}
 use Rattle.p3_step.specs.Key.{keyCells}
-use Rattle.p3_step.specs.Step.{stepOf, putCell, alsoCell}
+use Rattle.p3_step.specs.Mirror.{stepOf, putCell, alsoCell}
 use Rattle.p3_step.specs.declared.Change.the-variants.{Nothing}
 use Rattle.p3_step.specs.declared.Step.{Step}
 use Rattle.p3_step.proofs.Makes.{stored, Makes, step-makes}
 use Rattle.p3_step.proofs.Same.{step-same}
-use Rattle.p3_key.specs.Process.{inMode, next, written, isFull, keyOutcome, keyNext, keyed}
-use Rattle.p3_key.specs.Edit.{letterFor, refused, stepEdit, passEdit, editOf}
-use Rattle.p3_key.specs.declared.Edit.{Edit}
+use Rattle.p3_key.specs.Process.{inMode, nextCells, writtenFor, isFull, keyOutcome, keyNext, keyed}
+use Rattle.p3_key.specs.Mirror.{letterFor, noStroke, stepStroke, passStroke, strokeOf}
+use Rattle.p3_key.specs.declared.Stroke.{Stroke}
 use Rattle.p3_key.proofs.Letters.{lettersTo}
 
--- ---- what an edit leaves
-abbrev pub putEdit : Edit → List Cell → ℕ → Cell
+-- ---- what an stroke leaves
+abbrev pub putEdit : Stroke → List Cell → ℕ → Cell
 putEdit e cells key = putCell (e .change) (e .mark) (getD cells (e .at) blank) (getD cells (e .also) blank) key (asciiLower key)
 
-unfoldable pub edited : Composition → Edit → ℕ → Composition
-edited c e key =
-    record { cells = set (set (c .cells) (e .at) (putEdit e (c .cells) key)) (e .also) (alsoCell (e .change) (putEdit e (c .cells) key)); method = c .method; mode = c .mode; count = e .count }
+unfoldable pub stroked : Composition → Stroke → ℕ → Composition
+stroked c e key =
+    record {
+      cells = set (set (c .cells) (e .at) (putEdit e (c .cells) key)) (e .also)
+          (alsoCell (e .change) (putEdit e (c .cells) key));
+      method = c .method;
+      mode = c .mode;
+      count = e .count;
+    }
 
-pub record Right (c : Composition) (key : ℕ) (o : List ℕ) (e : Edit) : Type 0 where
-  pub comp : edited c e key ≡ keyed c key (length o) .comp
+pub record Right (c : Composition) (key : ℕ) (o : List ℕ) (e : Stroke) : Type 0 where
+  pub comp : stroked c e key ≡ keyed c key (length o) .comp
   pub told : e .answer ≡ answer (keyOutcome c key) (length o)
-  pub out : lettersTo (c .mode) key (edited c e key .cells) (e .letters) o ≡ output (keyOutcome c key) o
+  pub out : lettersTo (c .mode) key (stroked c e key .cells) (e .letters) o ≡ output (keyOutcome c key) o
 
 -- ---- what there is to write, way by way
 module _ (c : Composition) (key : ℕ) where
@@ -65,7 +73,7 @@ module _ (c : Composition) (key : ℕ) where
       unfolding keyOutcome
       outcome-full f = rw (s, a, f) refl
 
-      outcome-writes : isFull c key ≡ false → keyOutcome c key ≡ writes (written c key)
+      outcome-writes : isFull c key ≡ false → keyOutcome c key ≡ writes (writtenFor c key)
       unfolding keyOutcome
       outcome-writes f = rw (s, a, f) refl
 
@@ -73,8 +81,9 @@ module _ (c : Composition) (key : ℕ) where
 same-cells : (c : Composition) → set (set (c .cells) 0 (getD (c .cells) 0 blank)) 0 (getD (c .cells) 0 blank) ≡ c .cells
 same-cells c = rw (set-getD (c .cells) 0 blank) (set-getD (c .cells) 0 blank)
 
-kept-right : (c : Composition) (key : ℕ) (o : List ℕ) (r : Refusal) → Refused r ≡ answer (keyOutcome c key) (length o) → Right c key o (refused r (c .count))
-unfolding edited putCell alsoCell lettersTo keyed changed output
+kept-right : (c : Composition) (key : ℕ) (o : List ℕ) (r : Refusal) → Refused r ≡ answer (keyOutcome c key) (length o)
+    → Right c key o (noStroke r (c .count))
+unfolding stroked putCell alsoCell lettersTo keyed leaving output
 kept-right c key o r e =
     record {
       comp = rw (same-cells c, ← e) refl;
@@ -82,22 +91,25 @@ kept-right c key o r e =
       out = rw (← e) refl;
     }
 
-refused-right : (c : Composition) (key : ℕ) (o : List ℕ) (r : Refusal) → keyOutcome c key ≡ refuses r → Right c key o (refused r (c .count))
+refused-right : (c : Composition) (key : ℕ) (o : List ℕ) (r : Refusal) → keyOutcome c key ≡ refuses r
+    → Right c key o (noStroke r (c .count))
 refused-right c key o r q = kept-right c key o r (refuses-answer _ r q (length o))
 
-short-right : (c : Composition) (key : ℕ) (o : List ℕ) → keyOutcome c key ≡ writes (written c key) → length o < length (written c key) → Right c key o (refused Short (c .count))
+short-right : (c : Composition) (key : ℕ) (o : List ℕ) → keyOutcome c key ≡ writes (writtenFor c key) → length o < length (writtenFor c key)
+    → Right c key o (noStroke Short (c .count))
 short-right c key o q l = kept-right c key o Short (short-answer _ _ q (length o) l)
 
 -- ---- the composition and the output, where the letters are written
-module _ (c : Composition) (key : ℕ) (o : List ℕ) (q : keyOutcome c key ≡ writes (written c key)) (l : length (written c key) ≤ length o) where
-  told-written : (k : ℕ) → k ≡ length (written c key) → Done k ≡ answer (keyOutcome c key) (length o)
+module _ (c : Composition) (key : ℕ) (o : List ℕ) (q : keyOutcome c key ≡ writes (writtenFor c key))
+    (l : length (writtenFor c key) ≤ length o) where
+  told-written : (k : ℕ) → k ≡ length (writtenFor c key) → Done k ≡ answer (keyOutcome c key) (length o)
   told-written k e = writes-answer _ _ q (length o) k l e
 
   comp-written : keyed c key (length o) .comp ≡ keyNext c key
-  unfolding keyed changed
+  unfolding keyed leaving
   comp-written = rw (← told-written _ refl) refl
 
-  out-written : output (keyOutcome c key) o ≡ onto (written c key) o
+  out-written : output (keyOutcome c key) o ≡ onto (writtenFor c key) o
   out-written = sym (writes-output _ _ q o _ l refl)
 
 -- ---- English mode: the letter passes through
@@ -106,9 +118,11 @@ unfolding letterFor
 one-letter key [] h = absurd (omega arith)
 one-letter key (x ∷ xs) h = refl
 
-pass-right : (c : Composition) (key : ℕ) (o : List ℕ) → 0 < length (c .cells) → c .mode ≡ English → keyOutcome c key ≡ writes (written c key) → length (written c key) ≤ length o
-    → length (written c key) ≡ 1 → Right c key o (record { change = Nothing; at = 0; also = 0; mark = 0; count = c .count; letters = 1; answer = Done 1 })
-unfolding edited putCell alsoCell lettersTo keyNext written
+pass-right : (c : Composition) (key : ℕ) (o : List ℕ) → 0 < length (c .cells) → c .mode ≡ English
+    → keyOutcome c key ≡ writes (writtenFor c key) → length (writtenFor c key) ≤ length o
+    → length (writtenFor c key) ≡ 1
+    → Right c key o (record { change = Nothing; at = 0; also = 0; mark = 0; count = c .count; letters = 1; answer = Done 1 })
+unfolding stroked putCell alsoCell lettersTo keyNext writtenFor
 pass-right c key o h m q l e =
     record {
       comp = rw (comp-written c key o q l, same-cells c, m) refl;
@@ -117,33 +131,43 @@ pass-right c key o h m q l e =
     }
 
 -- ---- Vietnamese: the step's cells
-abbrev wrote : Step → Edit
-wrote s = record { change = s .change; at = s .at; also = s .also; mark = s .mark; count = s .count; letters = s .count; answer = Done (s .count) }
+abbrev wrote : Step → Stroke
+wrote s =
+    record {
+      change = s .change;
+      at = s .at;
+      also = s .also;
+      mark = s .mark;
+      count = s .count;
+      letters = s .count;
+      answer = Done
+          (s .count);
+    }
 
 blanks-less : (n k : ℕ) → drop k (blanks n) ≡ blanks (n - k)
 blanks-less n zero = let d : n - 0 ≡ n = omega arith in rw d refl
 blanks-less zero (suc k) = let d : 0 - suc k ≡ 0 = omega arith in rw d refl
 blanks-less (suc n) (suc k) = let d : suc n - suc k ≡ n - k = omega arith in rw d (blanks-less n k)
 
-module _ (c : Composition) (s : isSound c ≡ true) (n : length (c .cells) ≡ limit) where
+module _ (c : Composition) (s : isSound c ≡ true) where
   parted : c .cells ≡ used c ++ blanks (limit - length (used c))
-  unfolding holding
-  parted = ap (λ (d : Composition). d .cells) (holding-used c s n)
+  parted = ap (λ (d : Composition). d .cells) (holding-used c s) ∙ cells-held c (used c)
 
   module _ (xs : List Cell) (key : ℕ) (t : Step) (h : Makes t (used c) xs key (asciiLower key)) (l : length xs ≤ limit) where
     step-cells : stored t (c .cells) key (asciiLower key) ≡ xs ++ blanks (limit - length xs)
     step-cells =
-        let u = used-length c s n in
+        let u = used-length c s in
         let f = count-fits c s in
         let g = h .count in
         let v = h .grows in
         let b : length (blanks (limit - length (used c))) ≡ limit - length (used c) = length-blanks (limit - length (used c)) in
         let d : limit - length (used c) - (t .count - length (used c)) ≡ limit - length xs = omega arith in
-        rw parted (h .cells (blanks (limit - length (used c))) (omega arith) ∙ rw (blanks-less (limit - length (used c)) (t .count - length (used c)), d) refl)
+        rw parted (h .cells (blanks (limit - length (used c))) (omega arith)
+        ∙ rw (blanks-less (limit - length (used c)) (t .count - length (used c)), d) refl)
 
-    held : edited c (wrote t) key ≡ holding c xs
-    unfolding edited holding stored
-    held = rw (step-cells, h .count) refl
+    held : stroked c (wrote t) key ≡ holding c xs
+    unfolding stroked stored
+    held = rw (h .count) (made c xs (stored t (c .cells) key (asciiLower key)) (length xs) step-cells refl)
 
 -- what the definitions say where the answer is a number of letters
 in-vietnamese : {A : Type 0} (m : Mode) (a b : A) → m ≡ Vietnamese → inMode m a b ≡ a
@@ -161,92 +185,98 @@ letters-vietnamese m key xs e = rw e (go xs)
     go (x ∷ xs) = ap (λ (l : List ℕ). shown x ∷ l) (go xs)
 
 module _ (c : Composition) (key : ℕ) (m : c .mode ≡ Vietnamese) where
-  written-vietnamese : written c key ≡ textOf (next c key)
-  unfolding written
-  written-vietnamese = in-vietnamese (c .mode) (textOf (next c key)) (key ∷ []) m
+  written-vietnamese : writtenFor c key ≡ textOf (nextCells c key)
+  unfolding writtenFor
+  written-vietnamese = in-vietnamese (c .mode) (textOf (nextCells c key)) (key ∷ []) m
 
-  full-vietnamese : isFull c key ≡ ltb limit (length (next c key))
+  full-vietnamese : isFull c key ≡ ltb limit (length (nextCells c key))
   unfolding isFull
-  full-vietnamese = in-vietnamese (c .mode) (ltb limit (length (next c key))) false m
+  full-vietnamese = in-vietnamese (c .mode) (ltb limit (length (nextCells c key))) false m
 
-  written-length : length (written c key) ≡ length (next c key)
+  written-length : length (writtenFor c key) ≡ length (nextCells c key)
   unfolding textOf
-  written-length = rw written-vietnamese (length-map (next c key) shown)
+  written-length = rw written-vietnamese (length-map (nextCells c key) shown)
 
-  next-vietnamese : keyNext c key ≡ holding c (next c key)
+  next-vietnamese : keyNext c key ≡ holding c (nextCells c key)
   unfolding keyNext
-  next-vietnamese = in-vietnamese (c .mode) (holding c (next c key)) c m
+  next-vietnamese = in-vietnamese (c .mode) (holding c (nextCells c key)) c m
 
 front : (c : Composition) (xs : List Cell) → take (length xs) (holding c xs .cells) ≡ xs
-unfolding holding
-front c xs = take-append-seam xs (blanks (limit - length xs))
+front c xs = rw (cells-held c xs) (take-append-seam xs (blanks (limit - length xs)))
 
-step-right : (c : Composition) → isSound c ≡ true → length (c .cells) ≡ limit → (key : ℕ) (t : Step) → Makes t (used c) (next c key) key (asciiLower key) → length (next c key) ≤ limit
-    → (o : List ℕ) → c .mode ≡ Vietnamese → keyOutcome c key ≡ writes (written c key) → length (written c key) ≤ length o → Right c key o (wrote t)
+step-right : (c : Composition) → isSound c ≡ true → (key : ℕ) (t : Step) → Makes t (used c) (nextCells c key) key (asciiLower key)
+    → length (nextCells c key) ≤ limit → (o : List ℕ) → c .mode ≡ Vietnamese → keyOutcome c key ≡ writes (writtenFor c key)
+    → length (writtenFor c key) ≤ length o → Right c key o (wrote t)
 unfolding lettersTo
-step-right c s n key t h l o m q r =
-    let d = held c s n (next c key) key t h l in
+step-right c s key t h l o m q r =
+    let d = held c s (nextCells c key) key t h l in
     record {
       comp = d ∙ sym (comp-written c key o q r ∙ next-vietnamese c key m);
       told = told-written c key o q r (t .count) (h .count ∙ sym (written-length c key m));
       out =
-          rw (d, h .count, front c (next c key), letters-vietnamese (c .mode) key (next c key) m)
+          rw (d, h .count, front c (nextCells c key), letters-vietnamese (c .mode) key (nextCells c key) m)
           (sym (out-written c key o q r ∙ rw (written-length c key m, written-vietnamese c key m) refl));
     }
 
--- ---- the edit of a sound composition and a letter of the alphabet
-module _ (c : Composition) (key : ℕ) (o : List ℕ) (n : length (c .cells) ≡ limit) (s : isSound c ≡ true) (a : inAlphabet key ≡ true) where
+-- ---- the stroke of a sound composition and a letter of the alphabet
+module _ (c : Composition) (key : ℕ) (o : List ℕ) (s : isSound c ≡ true) (a : inAlphabet key ≡ true) where
   module _ (m : c .mode ≡ English) where
     full-english : isFull c key ≡ false
     unfolding isFull
-    full-english = in-english (c .mode) (ltb limit (length (next c key))) false m
+    full-english = in-english (c .mode) (ltb limit (length (nextCells c key))) false m
 
-    written-english : length (written c key) ≡ 1
-    unfolding written
-    written-english = rw (in-english (c .mode) (textOf (next c key)) (key ∷ []) m) refl
+    written-english : length (writtenFor c key) ≡ 1
+    unfolding writtenFor
+    written-english = rw (in-english (c .mode) (textOf (nextCells c key)) (key ∷ []) m) refl
 
-    english-right : Right c key o (passEdit (c .count) (length o))
-    unfolding passEdit
+    english-right : Right c key o (passStroke (c .count) (length o))
+    unfolding passStroke
     english-right = go (ltb (length o) 1) refl
       where
         go : (b : Bool) → ltb (length o) 1 ≡ b
-            → Right c key o (pick b (refused Short (c .count)) (record { change = Nothing; at = 0; also = 0; mark = 0; count = c .count; letters = 1; answer = Done 1 }))
+            → Right c key o (pick b (noStroke Short (c .count))
+            (record { change = Nothing; at = 0; also = 0; mark = 0; count = c .count; letters = 1; answer = Done 1 }))
         go true q =
-            let l : length o < length (written c key) = rw written-english (ltb-true (length o) 1 q) in
+            let l : length o < length (writtenFor c key) = rw written-english (ltb-true (length o) 1 q) in
             short-right c key o (outcome-writes c key s a full-english) l
         go false q =
-            let l : length (written c key) ≤ length o = rw written-english (ltb-false (length o) 1 q) in
-            pass-right c key o (rw n (omega arith)) m (outcome-writes c key s a full-english) l written-english
+            let l : length (writtenFor c key) ≤ length o = rw written-english (ltb-false (length o) 1 q) in
+            pass-right c key o (rw (sound-length c s) (omega arith)) m (outcome-writes c key s a full-english) l written-english
 
-  module _ (m : c .mode ≡ Vietnamese) (t : Step) (h : Makes t (used c) (next c key) key (asciiLower key)) where
-    vietnamese-right : Right c key o (stepEdit t (c .count) (length o))
-    unfolding stepEdit
+  module _ (m : c .mode ≡ Vietnamese) (t : Step) (h : Makes t (used c) (nextCells c key) key (asciiLower key)) where
+    vietnamese-right : Right c key o (stepStroke t (c .count) (length o))
+    unfolding stepStroke
     vietnamese-right = go (ltb limit (t .count)) (ltb (length o) (t .count)) refl refl
       where
         go : (b d : Bool) → ltb limit (t .count) ≡ b → ltb (length o) (t .count) ≡ d
-            → Right c key o (pick b (refused Full (c .count)) (pick d (refused Short (c .count)) (wrote t)))
+            → Right c key o (pick b (noStroke Full (c .count)) (pick d (noStroke Short (c .count)) (wrote t)))
         go true d p q = refused-right c key o Full (outcome-full c key s a (full-vietnamese c key m ∙ rw (h .count) at p))
         go false true p q =
-            let l : length o < length (written c key) = rw (written-length c key m, ← h .count) (ltb-true (length o) (t .count) q) in
+            let l : length o < length (writtenFor c key) = rw (written-length c key m, ← h .count) (ltb-true (length o) (t .count) q) in
             short-right c key o (outcome-writes c key s a (full-vietnamese c key m ∙ rw (h .count) at p)) l
         go false false p q =
-            let l : length (written c key) ≤ length o = rw (written-length c key m, ← h .count) (ltb-false (length o) (t .count) q) in
-            step-right c s n key t h (rw (h .count) at (ltb-false limit (t .count) p)) o m
+            let l : length (writtenFor c key) ≤ length o = rw (written-length c key m, ← h .count) (ltb-false (length o) (t .count) q) in
+            step-right c s key t h (rw (h .count) at (ltb-false limit (t .count) p)) o m
             (outcome-writes c key s a (full-vietnamese c key m ∙ rw (h .count) at p)) l
 
--- what the edit leaves is right
-pub edit-right : (c : Composition) (key : ℕ) (o : List ℕ) → length (c .cells) ≡ limit
-    → Right c key o (editOf (isSound c) (c .method) (c .mode) (rowCells (bases (used c))) key (c .count) (length o))
-unfolding editOf next
-edit-right c key o n = go (isSound c) (inAlphabet key) (c .mode) refl refl refl
+-- what the stroke leaves is right
+pub stroke-right : (c : Composition) (key : ℕ) (o : List ℕ)
+    → Right c key o (strokeOf (isSound c) (c .method) (c .mode) (rowCells (bases (used c))) key (c .count) (length o))
+unfolding strokeOf nextCells
+stroke-right c key o = go (isSound c) (inAlphabet key) (c .mode) refl refl refl
   where
-    made : isSound c ≡ true → Makes (stepOf (c .method) (rowCells (bases (used c))) (asciiLower key)) (used c) (keyCells (c .method) (used c) key) key (asciiLower key)
-    made s = rw (step-same (c .method) (used c) (asciiLower key) (used-cells c s n)) (step-makes (c .method) (used c) key)
+    makes : isSound c ≡ true
+        → Makes (stepOf (c .method) (rowCells (bases (used c))) (asciiLower key)) (used c) (keyCells (c .method) (used c) key) key
+        (asciiLower key)
+    makes s = rw (step-same (c .method) (used c) (asciiLower key) (used-cells c s)) (step-makes (c .method) (used c) key)
 
     go : (s a : Bool) (m : Mode) → isSound c ≡ s → inAlphabet key ≡ a → c .mode ≡ m
-        → Right c key o (pick s (pick a (inMode m (stepEdit (stepOf (c .method) (rowCells (bases (used c))) (asciiLower key)) (c .count) (length o)) (passEdit (c .count) (length o))) (refused Foreign (c .count)))
-        (refused Unsound (c .count)))
+        → Right c key o (pick s (pick a
+        (inMode m (stepStroke (stepOf (c .method) (rowCells (bases (used c))) (asciiLower key)) (c .count) (length o))
+        (passStroke (c .count) (length o))) (noStroke Foreign (c .count)))
+        (noStroke Unsound (c .count)))
     go false a m e f g = refused-right c key o Unsound (outcome-unsound c key e)
     go true false m e f g = refused-right c key o Foreign (outcome-foreign c key e f)
-    go true true English e f g = english-right c key o n e f g
-    go true true Vietnamese e f g = vietnamese-right c key o n e f g (stepOf (c .method) (rowCells (bases (used c))) (asciiLower key)) (made e)
+    go true true English e f g = english-right c key o e f g
+    go true true Vietnamese e f g =
+        vietnamese-right c key o e f g (stepOf (c .method) (rowCells (bases (used c))) (asciiLower key)) (makes e)

@@ -1,4 +1,4 @@
--- With room for 32 letters the key never refuses by 3.
+-- With room for the letters of all cells the key never refuses by 3.
 use Prim.Native.Nat.{ℕ, _≤_}
 use mathlib.Core.Path.{_≡_, refl}
 use mathlib.Core.Bool.{Bool, true, false}
@@ -18,28 +18,29 @@ use Rattle.p3_cells.specs.Text.{shown, textOf}
 use Rattle.p3_cells.specs.declared.Composition.{Composition}
 use Rattle.p3_cells.specs.declared.Mode.{Mode}
 use Rattle.p3_cells.specs.declared.Mode.the-variants.{Vietnamese, English}
-use Rattle.p3_key.specs.Process.{inMode, next, written, isFull, keyOutcome}
+use Rattle.p3_key.specs.Process.{inMode, nextCells, writtenFor, isFull, keyOutcome}
 
 module _ (c : Composition) (key : ℕ) where
   -- where all cells are used, what would not fit is refused by 2
-  written-short : isFull c key ≡ false → length (written c key) ≤ 32
-  unfolding written isFull textOf
+  written-short : isFull c key ≡ false → length (writtenFor c key) ≤ limit
+  unfolding writtenFor isFull textOf
   written-short = go (c .mode)
     where
-      go : (m : Mode) → inMode m (ltb limit (length (next c key))) false ≡ false → length (inMode m (textOf (next c key)) (key ∷ [])) ≤ 32
-      go Vietnamese e = omega (arith, length-map (next c key) shown, ltb-false limit (length (next c key)) e)
+      go : (m : Mode) → inMode m (ltb limit (length (nextCells c key))) false ≡ false
+          → length (inMode m (textOf (nextCells c key)) (key ∷ [])) ≤ limit
+      go Vietnamese e = omega (arith, length-map (nextCells c key) shown, ltb-false limit (length (nextCells c key)) e)
       go English e = omega arith
 
-  key-fits : Fits 32 (keyOutcome c key)
+  key-fits : Fits limit (keyOutcome c key)
   unfolding keyOutcome
   key-fits = go (isSound c) (inAlphabet key) (isFull c key) refl
     where
       go : (s a f : Bool) → isFull c key ≡ f
-          → Fits 32 (pick s (pick a (pick f (refuses Full) (writes (written c key))) (refuses Foreign)) (refuses Unsound))
+          → Fits limit (pick s (pick a (pick f (refuses Full) (writes (writtenFor c key))) (refuses Foreign)) (refuses Unsound))
       go true true true e = λ q. let z : _≡_ {A = ℕ} 0 1 = cc in omega arith
       go true true false e = written-short e
       go true false f e = λ q. let z : _≡_ {A = ℕ} 0 1 = cc in omega arith
       go false a f e = λ q. let z : _≡_ {A = ℕ} 0 1 = cc in omega arith
 
-  pub key-room : (n : ℕ) → 32 ≤ n → answer (keyOutcome c key) n ≡ Refused Short → ⊥
-  key-room n h = enough (keyOutcome c key) 32 n key-fits h
+  pub key-room : (n : ℕ) → limit ≤ n → answer (keyOutcome c key) n ≡ Refused Short → ⊥
+  key-room n h = enough (keyOutcome c key) limit n key-fits h

@@ -1,2 +1,2 @@
 pub mod Process
-pub mod Edit
+pub mod Mirror

@@ -10,9 +10,9 @@ use Rattle.p0_refusals.specs.declared.Refusal.the-variants.{Foreign, Full, Unso
 use Rattle.p1_letters.specs.Alphabet.{inAlphabet}
 use Rattle.p3_cells.specs.Cells.{limit, isSound, used, holding}
 use Rattle.p3_cells.specs.Text.{textOf}
-use Rattle.p3_cells.specs.Leaving.{changed}
+use Rattle.p3_cells.specs.Leaving.{leaving}
 use Rattle.p3_cells.specs.declared.Cell.{Cell}
-use Rattle.p3_cells.specs.declared.Changed.{Changed}
+use Rattle.p3_cells.specs.declared.After.{After}
 use Rattle.p3_cells.specs.declared.Composition.{Composition}
 use Rattle.p3_cells.specs.declared.Mode.{Mode}
 use Rattle.p3_cells.specs.declared.Mode.the-variants.{Vietnamese, English}
@@ -23,27 +23,27 @@ inMode Vietnamese a b = a
 inMode English a b = b
 
 -- the cells after the key
-unfoldable pub next : Composition → ℕ → List Cell
-next c key = keyCells (c .method) (used c) key
+unfoldable pub nextCells : Composition → ℕ → List Cell
+nextCells c key = keyCells (c .method) (used c) key
 
 -- what is written: the text, and "in English mode .. that one letter"
-unfoldable pub written : Composition → ℕ → List ℕ
-written c key = inMode (c .mode) (textOf (next c key)) (key ∷ [])
+unfoldable pub writtenFor : Composition → ℕ → List ℕ
+writtenFor c key = inMode (c .mode) (textOf (nextCells c key)) (key ∷ [])
 
 -- "a letter must be appended and 32 cells are used": then there would be one more
 unfoldable pub isFull : Composition → ℕ → Bool
-isFull c key = inMode (c .mode) (ltb limit (length (next c key))) false
+isFull c key = inMode (c .mode) (ltb limit (length (nextCells c key))) false
 
 -- what there is to write, or the refusal
 unfoldable pub keyOutcome : Composition → ℕ → Outcome
 keyOutcome c key =
-    pick (isSound c) (pick (inAlphabet key) (pick (isFull c key) (refuses Full) (writes (written c key))) (refuses Foreign))
+    pick (isSound c) (pick (inAlphabet key) (pick (isFull c key) (refuses Full) (writes (writtenFor c key))) (refuses Foreign))
     (refuses Unsound)
 
 -- the composition after a key that is not refused; English mode: "nothing changes"
 unfoldable pub keyNext : Composition → ℕ → Composition
-keyNext c key = inMode (c .mode) (holding c (next c key)) c
+keyNext c key = inMode (c .mode) (holding c (nextCells c key)) c
 
 -- what the key leaves, where the output has n places
-unfoldable pub keyed : Composition → ℕ → ℕ → Changed
-keyed c key n = changed (answer (keyOutcome c key) n) c (keyNext c key)
+unfoldable pub keyed : Composition → ℕ → ℕ → After
+keyed c key n = leaving (answer (keyOutcome c key) n) c (keyNext c key)

@@ -9,16 +9,16 @@ ghost use lib.Dec.{eqb};
 ghost use lib.ListN.{length};
 ghost use Rattle.p0_refusals.specs.Answers.{output};
 ghost use Rattle.p3_cells.specs.Cells.{limit, isCell, isSound};
-ghost use Rattle.p3_row.specs.Row.{rowCells};
+ghost use Rattle.p3_cells.specs.Mirror.{rowCells};
 ghost use Rattle.p3_key.specs.Process.{keyOutcome, keyed};
-ghost use Rattle.p3_key.specs.Edit.{soundBy, letterFor, refused, stepEdit, passEdit, editOf};
+ghost use Rattle.p3_key.specs.Mirror.{soundBy, letterFor, noStroke, stepStroke, passStroke, strokeOf};
 use p0_refusals::Answer;
 use p0_refusals::Refusal;
 use p1_letters as letters;
 use p2_input_method::InputMethod;
 use p3_cells as cells;
+use p3_cells::After;
 use p3_cells::Cell;
-use p3_cells::Changed;
 use p3_cells::Composition;
 use p3_cells::LIMIT;
 use p3_cells::Mode;
@@ -27,7 +27,7 @@ use p3_step::Change;
 use p3_step::Step;
 
 // A step or a refusal, with how many letters are written and the answer.
-pub struct Edit {
+pub struct Stroke {
     pub change: Change,
     pub at: usize,
     pub also: usize,
@@ -48,10 +48,10 @@ fn letter_for(o: Mode, key: u32, z: Cell) -> u32
     }
 }
 
-fn refuse(r: Refusal, n: usize) -> Edit
-    ensures { λ e. ⌜ e ≡ refused r n ⌝ }
+fn refuse(r: Refusal, n: usize) -> Stroke
+    ensures { λ e. ⌜ e ≡ noStroke r n ⌝ }
 {
-    Edit {
+    Stroke {
         change: Change::Nothing,
         at: 0,
         also: 0,
@@ -62,8 +62,8 @@ fn refuse(r: Refusal, n: usize) -> Edit
     }
 }
 
-fn step_edit(s: Step, n: usize, room: usize) -> Edit
-    ensures { λ r. ⌜ r ≡ stepEdit s n room ⌝ }
+fn step_stroke(s: Step, n: usize, room: usize) -> Stroke
+    ensures { λ r. ⌜ r ≡ stepStroke s n room ⌝ }
 {
     let count = s.count;
     if LIMIT < count {
@@ -73,7 +73,7 @@ fn step_edit(s: Step, n: usize, room: usize) -> Edit
         return refuse(Refusal::Short, n);
     }
     let change = s.change;
-    Edit {
+    Stroke {
         change: change,
         at: s.at,
         also: s.also,
@@ -84,13 +84,13 @@ fn step_edit(s: Step, n: usize, room: usize) -> Edit
     }
 }
 
-fn pass_edit(n: usize, room: usize) -> Edit
-    ensures { λ r. ⌜ r ≡ passEdit n room ⌝ }
+fn pass_stroke(n: usize, room: usize) -> Stroke
+    ensures { λ r. ⌜ r ≡ passStroke n room ⌝ }
 {
     if room < 1 {
         return refuse(Refusal::Short, n);
     }
-    Edit {
+    Stroke {
         change: Change::Nothing,
         at: 0,
         also: 0,
@@ -102,7 +102,7 @@ fn pass_edit(n: usize, room: usize) -> Edit
 }
 
 // What the key does. The places lie in the array, and the letters fit into it and into the output.
-fn edit_of(
+fn stroke_of(
     sound: bool,
     m: InputMethod,
     o: Mode,
@@ -110,9 +110,10 @@ fn edit_of(
     key: u32,
     n: usize,
     room: usize,
-) -> Edit
+) -> Stroke
     requires { ⌜ length (now row) ≤ limit ⌝ }
-    ensures { λ r. ⌜ (r ≡ editOf sound m o (rowCells (now (row .entry))) key n room) × (r .at < limit) × (r .also < limit) × (r .letters ≤ limit) × (r .letters ≤ room) ⌝ }
+    ensures { λ r. ⌜ (r ≡ strokeOf sound m o (rowCells (now (row .entry))) key n room) × (r .at < limit) × (r .also < limit)
+        × (r .letters ≤ limit) × (r .letters ≤ room) ⌝ }
 {
     if !sound {
         return refuse(Refusal::Unsound, n);
@@ -123,9 +124,9 @@ fn edit_of(
     match o {
         Mode::Vietnamese => {
             let s = step::first_step(m, row, letters::ascii_lower(key));
-            step_edit(s, n, room)
+            step_stroke(s, n, room)
         }
-        Mode::English => pass_edit(n, room),
+        Mode::English => pass_stroke(n, room),
     }
 }
 
@@ -169,7 +170,7 @@ fn is_sound(trusted: bool, n: usize, faults: u64) -> bool
 
 // The owner. Its three loops stand here because a function that is handed the composition copies it: the row and the
 // test of the cells in use, the test of the blank ones, and the text. Where it is trusted the tests are compiled away.
-fn compose(mut c: Composition, key: u32, out: &mut [u32], trusted: bool) -> Changed
+fn compose(mut c: Composition, key: u32, out: &mut [u32], trusted: bool) -> After
     requires { ⌜ (trusted ≡ true → isSound c ≡ true) ⌝ }
     ensures { λ r. ⌜ (r ≡ keyed c key (length (now (out .entry)))) × (now (out .exit) ≡ output (keyOutcome c key) (now (out .entry))) ⌝ }
 {
@@ -186,13 +187,13 @@ fn compose(mut c: Composition, key: u32, out: &mut [u32], trusted: bool) -> Chan
     }
     while i < LIMIT {
         let x = c.cells[i];
-        faults += cells::weight(x);
+        faults += cells::packed(x);
         i += 1;
     }
     let sound = is_sound(trusted, n, faults);
     let m = c.method;
     let o = c.mode;
-    let e = edit_of(sound, m, o, &bases[0..used], key, n, out.len());
+    let e = stroke_of(sound, m, o, &bases[0..used], key, n, out.len());
     let change = e.change;
     let at = e.at;
     let also = e.also;
@@ -214,20 +215,20 @@ fn compose(mut c: Composition, key: u32, out: &mut [u32], trusted: bool) -> Chan
         j += 1;
     }
     let answer = e.answer;
-    Changed {
+    After {
         comp: c,
         answer: answer,
     }
 }
 
-pub fn process_key(c: Composition, key: u32, out: &mut [u32]) -> Changed
+pub fn process_key(c: Composition, key: u32, out: &mut [u32]) -> After
     ensures { λ r. ⌜ (r ≡ keyed c key (length (now (out .entry)))) × (now (out .exit) ≡ output (keyOutcome c key) (now (out .entry))) ⌝ }
 {
     compose(c, key, out, false)
 }
 
 // The same without the test of soundness, for a caller that knows it: a loop over keys of our own.
-pub fn process_sound_key(c: Composition, key: u32, out: &mut [u32]) -> Changed
+pub fn process_sound_key(c: Composition, key: u32, out: &mut [u32]) -> After
     requires { ⌜ isSound c ≡ true ⌝ }
     ensures { λ r. ⌜ (r ≡ keyed c key (length (now (out .entry)))) × (now (out .exit) ≡ output (keyOutcome c key) (now (out .entry))) ⌝ }
 {

@@ -5,8 +5,9 @@ use mathlib.Core.List.{List}
 use lib.ListN.{length, getD}
 use Rattle.p1_letters.specs.Alphabet.{asciiLower}
 use Rattle.p3_cells.specs.declared.Cell.{Cell}
-use Rattle.p3_row.specs.Row.{rowCells, bases}
-use Rattle.p3_row.proofs.Row.{row-length, row-at, bases-length, bases-at}
+use Rattle.p3_cells.specs.Row.{bases}
+use Rattle.p3_cells.specs.Mirror.{rowCells}
+use Rattle.p3_cells.proofs.Row.{row-length, row-at, bases-length, bases-at}
 use Rattle.p3_marks.specs.Uo.{baseAt}
 
 pub row-base : (row : List ℕ) (i : ℕ) → baseAt (rowCells row) i ≡ asciiLower (getD row i 0)

@@ -2,4 +2,5 @@ pub mod Base
 pub mod Uo
 pub mod Ua
 pub mod Mark
-pub mod Nearest
+pub mod InWords
+pub mod Only

@@ -14,10 +14,13 @@ use Rattle.p2_input_method.specs.Rules.{markRules, markIn, markFor}
 use Rattle.p2_input_method.specs.declared.MarkRule.{MarkRule}
 use Rattle.p2_input_method.specs.declared.InputMethod.{InputMethod}
 use Rattle.p3_cells.specs.declared.Cell.{Cell}
-use Rattle.p3_row.specs.Row.{rowCells, bases}
-use Rattle.p3_row.proofs.Row.{row-length}
+use Rattle.p3_cells.specs.Row.{bases}
+use Rattle.p3_cells.specs.Mirror.{rowCells}
+use Rattle.p3_cells.proofs.Row.{row-length}
 use Rattle.p3_marks.specs.Uo.{baseAt}
-use Rattle.p3_marks.specs.Mark.{markKeys, isMarkKey, markBack, markPlace}
+use Rattle.p3_marks.specs.Mark.{markBack, markPlace}
+use Rattle.p3_marks.specs.Mirror.{isMarkKey}
+use Rattle.p3_marks.specs.Mirror.{markKeys}
 use Rattle.p3_cells.specs.declared.Place.{Place}
 use Rattle.p3_cells.specs.declared.Place.the-variants.{Nowhere, At}
 use Rattle.p3_marks.proofs.Base.{row-base, same-base, same-length}
@@ -93,7 +96,8 @@ back-marks m cs k (suc n) zero j e = let z : _≡_ {A = ℕ} 0 1 = cc in absurd 
 back-marks m cs k (suc n) (suc i) j e =
     go (eqb (markFor m (baseAt cs i) k) 0) refl e (λ (f : markBack m cs k n i ≡ At j). back-marks m cs k n i j f)
   where
-    go : (t : Bool) → eqb (markFor m (baseAt cs i) k) 0 ≡ t → pick t (markBack m cs k n i) (At i) ≡ At j → (markBack m cs k n i ≡ At j → Marks m cs k i j) → Marks m cs k (suc i) j
+    go : (t : Bool) → eqb (markFor m (baseAt cs i) k) 0 ≡ t → pick t (markBack m cs k n i) (At i) ≡ At j
+        → (markBack m cs k n i ≡ At j → Marks m cs k i j) → Marks m cs k (suc i) j
     go true f e g = let r = g e in let l = r .below in record { below = omega arith; rule = r .rule }
     go false f e g = let d : i ≡ j = cc in record { below = omega arith; rule = rw d at (eqb-false (markFor m (baseAt cs i) k) 0 f) }
 

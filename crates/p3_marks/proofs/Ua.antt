@@ -10,8 +10,9 @@ use borrow.Author.Tests.{eq-eqb, ne-eqb, lt-ltb, le-ltb, ltb-false}
 use Rattle.p0_choice.specs.Choice.{pick}
 use Rattle.p1_letters.specs.Alphabet.{asciiLower}
 use Rattle.p3_cells.specs.declared.Cell.{Cell}
-use Rattle.p3_row.specs.Row.{rowCells, bases}
-use Rattle.p3_row.proofs.Row.{row-length}
+use Rattle.p3_cells.specs.Row.{bases}
+use Rattle.p3_cells.specs.Mirror.{rowCells}
+use Rattle.p3_cells.proofs.Row.{row-length}
 use Rattle.p3_marks.specs.Uo.{baseAt}
 use Rattle.p3_marks.specs.Ua.{afterQ, uaPlace}
 use Rattle.p3_cells.specs.declared.Place.the-variants.{Nowhere, At}
@@ -36,15 +37,37 @@ module _ (row : List ℕ) where
     ua-no-u t = rw (row-length row, le-ltb (length row) 2 h, row-base row (length row - 2), ← p, ne-eqb u 117 t) refl
 
     module _ (a : ℕ) (t : u ≡ 117) (q : a ≡ asciiLower (getD row (length row - 1) 0)) where
-      by-q : (b : Bool) → a ≡ 97 → afterQ (rowCells row) (length row - 2) ≡ b → pick b Nowhere (At (length row - 2)) ≡ uaPlace (rowCells row)
+      by-q : (b : Bool) → a ≡ 97 → afterQ (rowCells row) (length row - 2) ≡ b
+          → pick b Nowhere (At (length row - 2)) ≡ uaPlace (rowCells row)
       unfolding uaPlace
       by-q b v f =
-          rw (row-length row, le-ltb (length row) 2 h, row-base row (length row - 2), ← p, eq-eqb u 117 t, row-base row (length row - 1), ← q, eq-eqb a 97 v, f) refl
+          rw (
+            row-length row,
+            le-ltb (length row) 2 h,
+            row-base row (length row - 2),
+            ← p,
+            eq-eqb u 117 t,
+            row-base row
+                (length row - 1),
+            ← q,
+            eq-eqb a 97 v,
+            f,
+          ) refl
 
       pub ua-no-a : (a ≡ 97 → ⊥) → Nowhere ≡ uaPlace (rowCells row)
       unfolding uaPlace
       ua-no-a v =
-          rw (row-length row, le-ltb (length row) 2 h, row-base row (length row - 2), ← p, eq-eqb u 117 t, row-base row (length row - 1), ← q, ne-eqb a 97 v) refl
+          rw (
+            row-length row,
+            le-ltb (length row) 2 h,
+            row-base row (length row - 2),
+            ← p,
+            eq-eqb u 117 t,
+            row-base row
+                (length row - 1),
+            ← q,
+            ne-eqb a 97 v,
+          ) refl
 
       pub ua-whole : a ≡ 97 → length row < 3 → At (length row - 2) ≡ uaPlace (rowCells row)
       ua-whole v l = by-q false v (after-first (rowCells row) (length row - 2) (omega arith))
@@ -65,7 +88,8 @@ unfolding uaPlace
 ua-below cs j e =
     go (ltb (length cs) 2) (eqb (baseAt cs (length cs - 2)) 117) (eqb (baseAt cs (length cs - 1)) 97) (afterQ cs (length cs - 2)) refl e
   where
-    go : (s a b q : Bool) → ltb (length cs) 2 ≡ s → pick s Nowhere (pick a (pick b (pick q Nowhere (At (length cs - 2))) Nowhere) Nowhere) ≡ At j → j < length cs
+    go : (s a b q : Bool) → ltb (length cs) 2 ≡ s
+        → pick s Nowhere (pick a (pick b (pick q Nowhere (At (length cs - 2))) Nowhere) Nowhere) ≡ At j → j < length cs
     go true a b q f e = let z : _≡_ {A = ℕ} 0 1 = cc in absurd (omega arith)
     go false true true true f e = let z : _≡_ {A = ℕ} 0 1 = cc in absurd (omega arith)
     go false true true false f e = let d : length cs - 2 ≡ j = cc in let l = ltb-false (length cs) 2 f in omega arith

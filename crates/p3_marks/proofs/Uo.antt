@@ -12,8 +12,9 @@ use Rattle.p0_choice.specs.Choice.{pick}
 use Rattle.p1_letters.specs.Alphabet.{asciiLower}
 use Rattle.p1_letters.specs.Vowels.{isVowel}
 use Rattle.p3_cells.specs.declared.Cell.{Cell}
-use Rattle.p3_row.specs.Row.{rowCells, bases}
-use Rattle.p3_row.proofs.Row.{row-length}
+use Rattle.p3_cells.specs.Row.{bases}
+use Rattle.p3_cells.specs.Mirror.{rowCells}
+use Rattle.p3_cells.proofs.Row.{row-length}
 use Rattle.p3_marks.specs.Uo.{baseAt, uoBack, uoPlace}
 use Rattle.p3_cells.specs.declared.Place.{Place}
 use Rattle.p3_cells.specs.declared.Place.the-variants.{Nowhere, At}
@@ -54,10 +55,14 @@ module _ (row : List ℕ) (s : Place) (left i : ℕ) (e : s ≡ uoBack (rowCells
 
     module _ (o : ℕ) (h : 2 ≤ i) (p : o ≡ asciiLower (getD row (i - 1) 0)) where
       pub uo-found : (u : ℕ) → o ≡ 111 → u ≡ asciiLower (getD row (i - 1 - 1) 0) → u ≡ 117 → At (i - 1 - 1) ≡ s
-      uo-found u t q v = rw (e, turn (rowCells row) left i l h, row-base row (i - 1), ← p, row-base row (i - 1 - 1), ← q, eq-eqb o 111 t, eq-eqb u 117 v) refl
+      uo-found u t q v =
+          rw (e, turn (rowCells row) left i l h, row-base row (i - 1), ← p, row-base row (i - 1 - 1), ← q, eq-eqb o 111 t, eq-eqb u 117 v)
+          refl
 
       pub uo-other : (u : ℕ) → o ≡ 111 → u ≡ asciiLower (getD row (i - 1 - 1) 0) → (u ≡ 117 → ⊥) → Nowhere ≡ s
-      uo-other u t q v = rw (e, turn (rowCells row) left i l h, row-base row (i - 1), ← p, row-base row (i - 1 - 1), ← q, eq-eqb o 111 t, ne-eqb u 117 v) refl
+      uo-other u t q v =
+          rw (e, turn (rowCells row) left i l h, row-base row (i - 1), ← p, row-base row (i - 1 - 1), ← q, eq-eqb o 111 t, ne-eqb u 117 v)
+          refl
 
       pub uo-vowel : (v : Bool) → (o ≡ 111 → ⊥) → v ≡ isVowel o → v ≡ true → Nowhere ≡ s
       uo-vowel v t q y = rw (e, turn (rowCells row) left i l h, row-base row (i - 1), ← p, ne-eqb o 111 t, ← q, y) refl
@@ -72,9 +77,11 @@ back-below cs zero i j e = let z : _≡_ {A = ℕ} 0 1 = cc in absurd (omega ari
 back-below cs (suc n) zero j e = let z : _≡_ {A = ℕ} 0 1 = cc in absurd (omega arith)
 back-below cs (suc n) (suc zero) j e = let z : _≡_ {A = ℕ} 0 1 = cc in absurd (omega arith)
 back-below cs (suc n) (suc (suc i)) j e =
-    go (eqb (baseAt cs (suc i)) 111) (eqb (baseAt cs i) 117) (isVowel (baseAt cs (suc i))) e (λ (f : uoBack cs n (suc i) ≡ At j). back-below cs n (suc i) j f)
+    go (eqb (baseAt cs (suc i)) 111) (eqb (baseAt cs i) 117) (isVowel (baseAt cs (suc i))) e
+    (λ (f : uoBack cs n (suc i) ≡ At j). back-below cs n (suc i) j f)
   where
-    go : (a b v : Bool) → pick a (pick b (At i) Nowhere) (pick v Nowhere (uoBack cs n (suc i))) ≡ At j → (uoBack cs n (suc i) ≡ At j → suc j < suc i) → suc j < suc (suc i)
+    go : (a b v : Bool) → pick a (pick b (At i) Nowhere) (pick v Nowhere (uoBack cs n (suc i))) ≡ At j
+        → (uoBack cs n (suc i) ≡ At j → suc j < suc i) → suc j < suc (suc i)
     go true true v e f = let d : i ≡ j = cc in omega arith
     go true false v e f = let z : _≡_ {A = ℕ} 0 1 = cc in absurd (omega arith)
     go false b true e f = let z : _≡_ {A = ℕ} 0 1 = cc in absurd (omega arith)

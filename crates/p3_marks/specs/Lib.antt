@@ -1,3 +1,4 @@
 pub mod Uo
 pub mod Ua
 pub mod Mark
+pub mod Mirror

@@ -1,13 +1,11 @@
 -- Document 01, "A key, step by step", *Mark*: "From the last cell back over at most 5, any letters between: the first whose
 -- base with k is a rule takes the result as base and mark; tone and flag stay."
 use Prim.Native.Nat.{ℕ, zero, suc}
-use mathlib.Core.Bool.{Bool}
-use mathlib.Core.List.{List, [], _∷_}
+use mathlib.Core.List.{List}
 use lib.Dec.{eqb}
 use lib.ListN.{length, getD, set}
-use Rattle.p0_choice.specs.Choice.{pick, among}
-use Rattle.p2_input_method.specs.Rules.{markRules, markFor}
-use Rattle.p2_input_method.specs.declared.MarkRule.{MarkRule}
+use Rattle.p0_choice.specs.Choice.{pick}
+use Rattle.p2_input_method.specs.Rules.{markFor}
 use Rattle.p2_input_method.specs.declared.InputMethod.{InputMethod}
 use Rattle.p3_cells.specs.Cells.{blank}
 use Rattle.p3_cells.specs.declared.Cell.{Cell}
@@ -15,14 +13,6 @@ use Rattle.p3_marks.specs.Uo.{baseAt}
 use Rattle.p3_cells.specs.declared.Place.{Place}
 use Rattle.p3_cells.specs.declared.Place.the-variants.{Nowhere, At}
 use Rattle.p3_marks.specs.Ua.{marked}
-
--- the keys of mark rules
-unfoldable pub markKeys : List MarkRule → List ℕ
-markKeys [] = []
-markKeys (r ∷ rs) = r .key ∷ markKeys rs
-
-unfoldable pub isMarkKey : InputMethod → ℕ → Bool
-isMarkKey m k = among k (markKeys (markRules m))
 
 -- with i cells at hand, of which the last is looked at; n may be
 unfoldable pub markBack : InputMethod → List Cell → ℕ → ℕ → ℕ → Place

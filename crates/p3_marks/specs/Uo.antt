@@ -1,5 +1,6 @@
 -- Document 01, "A key, step by step", *uo*.
 use Prim.Native.Nat.{ℕ, zero, suc}
+use Prim.Native.Char.{code}
 use mathlib.Core.Bool.{false}
 use mathlib.Core.List.{List}
 use lib.Dec.{eqb}
@@ -23,7 +24,7 @@ uoBack cs zero i = Nowhere
 uoBack cs (suc n) zero = Nowhere
 uoBack cs (suc n) (suc zero) = Nowhere
 uoBack cs (suc n) (suc (suc i)) =
-    pick (eqb (baseAt cs (suc i)) 111) (pick (eqb (baseAt cs i) 117) (At i) Nowhere)
+    pick (eqb (baseAt cs (suc i)) (code "o")) (pick (eqb (baseAt cs i) (code "u")) (At i) Nowhere)
     (pick (isVowel (baseAt cs (suc i))) Nowhere (uoBack cs n (suc i)))
 
 unfoldable pub uoPlace : List Cell → Place
@@ -31,10 +32,10 @@ uoPlace cs = uoBack cs 5 (length cs)
 
 -- "ư takes the o's tone and the u's flag; ơ has no tone and no flag; the u's tone is lost."
 unfoldable pub hornU : Cell → Cell → Cell
-hornU u o = record { base = 0x1b0; mark = 0x1b0; tone = o .tone; upper = u .upper }
+hornU u o = record { base = code "ư"; mark = code "ư"; tone = o .tone; upper = u .upper }
 
 abbrev pub hornO : Cell
-hornO = record { base = 0x1a1; mark = 0x1a1; tone = 0; upper = false }
+hornO = record { base = code "ơ"; mark = code "ơ"; tone = 0; upper = false }
 
 unfoldable pub uoMade : List Cell → ℕ → List Cell
 uoMade cs i = set (set cs i (hornU (getD cs i blank) (getD cs (suc i) blank))) (suc i) hornO

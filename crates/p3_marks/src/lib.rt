@@ -1,9 +1,10 @@
 // Where the uo, ua and mark steps change cells (bamboo.rs: process_key, find_mark_backtrack), over a lent row of bases.
 ghost use mathlib.Core.Path.{_≡_};
-ghost use Rattle.p3_row.specs.Row.{rowCells};
+ghost use Rattle.p3_cells.specs.Mirror.{rowCells};
 ghost use Rattle.p3_marks.specs.Uo.{uoPlace};
 ghost use Rattle.p3_marks.specs.Ua.{uaPlace};
-ghost use Rattle.p3_marks.specs.Mark.{isMarkKey, markPlace};
+ghost use Rattle.p3_marks.specs.Mark.{markPlace};
+ghost use Rattle.p3_marks.specs.Mirror.{isMarkKey};
 use p1_letters as letters;
 use p2_input_method as input_method;
 use p2_input_method::InputMethod;

@@ -6,7 +6,7 @@ use Rattle.p3_cells.specs.Cells.{typed}
 use Rattle.p3_cells.specs.declared.Cell.{Cell}
 use Rattle.p3_marks.specs.Uo.{hornU}
 use Rattle.p3_marks.specs.Ua.{marked}
-use Rattle.p3_step.specs.Step.{putCell, alsoCell}
+use Rattle.p3_step.specs.Mirror.{putCell, alsoCell}
 use Rattle.p3_step.specs.declared.Change.{Change}
 use Rattle.p3_step.specs.declared.Change.the-variants.{Nothing, Tone, Mark, Pair, Append}
 

@@ -8,12 +8,12 @@ use Rattle.p1_letters.specs.Alphabet.{asciiLower}
 use Rattle.p2_input_method.specs.Rules.{isToneKey, isHornKey}
 use Rattle.p2_input_method.specs.declared.InputMethod.{InputMethod}
 use Rattle.p3_cells.specs.Cells.{typed}
-use Rattle.p3_cells.specs.Places.{placeOr}
+use Rattle.p3_cells.specs.Place.{placeOr}
 use Rattle.p3_cells.specs.declared.Cell.{Cell}
 use Rattle.p3_cells.specs.declared.Place.{Place}
 use Rattle.p3_cells.specs.declared.Place.the-variants.{Nowhere, At}
-use Rattle.p3_place.specs.Place.{anyVowel, tonePlace}
-use Rattle.p3_place.proofs.Bound.{vowel-some, tone-below}
+use Rattle.p3_tone.specs.TonePlace.{anyVowel, tonePlace}
+use Rattle.p3_tone.proofs.Bound.{vowel-some, tone-below}
 use Rattle.p3_marks.specs.Uo.{uoPlace, uoMade}
 use Rattle.p3_marks.specs.Ua.{uaPlace, uaMade}
 use Rattle.p3_marks.specs.Mark.{markPlace, markMade}
@@ -28,7 +28,8 @@ pub data Framed (cs : List Cell) : List Cell → Type 0 where
   changes : (i : ℕ) (x : Cell) → i < length cs → Framed cs (set cs i x)
   changesTwo : (i : ℕ) (x y : Cell) → suc i < length cs → Framed cs (set (set cs i x) (suc i) y)
 
-place-both : {A : Type 0} (P : A → Type 0) (p : Place) (made : ℕ → A) (later : A) → ((i : ℕ) → p ≡ At i → P (made i)) → P later → P (placeOr p made later)
+place-both : {A : Type 0} (P : A → Type 0) (p : Place) (made : ℕ → A) (later : A) → ((i : ℕ) → p ≡ At i → P (made i)) → P later
+    → P (placeOr p made later)
 place-both P Nowhere made later f g = g
 place-both P (At i) made later f g = f i refl
 
@@ -40,7 +41,8 @@ module _ (m : InputMethod) (cs : List Cell) (key : ℕ) where
   mark-frame : (k : ℕ) → Framed cs (markOrLater m cs key k)
   unfolding markOrLater markMade
   mark-frame k =
-      place-both (Framed cs) (markPlace m cs k) (markMade m cs k) (appended cs key) (λ i e. changes i _ (place-marks m cs k i e .below)) appended-frame
+      place-both (Framed cs) (markPlace m cs k) (markMade m cs k) (appended cs key)
+      (λ i e. changes i _ (place-marks m cs k i e .below)) appended-frame
 
   horn-frame : (k : ℕ) → Framed cs (hornOrLater m cs key k)
   unfolding hornOrLater uoMade uaMade
@@ -54,5 +56,6 @@ module _ (m : InputMethod) (cs : List Cell) (key : ℕ) where
   unfolding keyCells toneMade
   key-frame =
       pick-both (Framed cs) (isToneKey m (asciiLower key)) _ _
-      (λ t. pick-both (Framed cs) (anyVowel cs) _ _ (λ v. changes (tonePlace cs) _ (tone-below cs (vowel-some cs v))) (λ v. horn-frame (asciiLower key)))
+      (λ t. pick-both (Framed cs) (anyVowel cs) _ _ (λ v. changes (tonePlace cs) _ (tone-below cs (vowel-some cs v)))
+      (λ v. horn-frame (asciiLower key)))
       (λ t. horn-frame (asciiLower key))

@@ -4,3 +4,4 @@ pub mod Makes
 pub mod Same
 pub mod Sound
 pub mod Frame
+pub mod Only

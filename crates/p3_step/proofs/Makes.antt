@@ -11,11 +11,11 @@ use Rattle.p1_letters.specs.Alphabet.{asciiLower}
 use Rattle.p2_input_method.specs.Rules.{isToneKey, isHornKey, markFor}
 use Rattle.p2_input_method.specs.declared.InputMethod.{InputMethod}
 use Rattle.p3_cells.specs.Cells.{blank, typed}
-use Rattle.p3_cells.specs.Places.{placeOr}
+use Rattle.p3_cells.specs.Place.{placeOr}
 use Rattle.p3_cells.specs.declared.Cell.{Cell}
 use Rattle.p3_cells.proofs.Made.{tone-key-small}
-use Rattle.p3_place.specs.Place.{anyVowel, tonePlace}
-use Rattle.p3_place.proofs.Bound.{vowel-some, tone-below}
+use Rattle.p3_tone.specs.TonePlace.{anyVowel, tonePlace}
+use Rattle.p3_tone.proofs.Bound.{vowel-some, tone-below}
 use Rattle.p3_marks.specs.Uo.{baseAt, uoPlace, hornU, hornO, uoMade}
 use Rattle.p3_marks.specs.Ua.{uaPlace, marked, uaMade}
 use Rattle.p3_marks.specs.Mark.{markPlace, markMade}
@@ -25,7 +25,7 @@ use Rattle.p3_marks.proofs.Uo.{uo-below}
 use Rattle.p3_marks.proofs.Ua.{ua-below}
 use Rattle.p3_marks.proofs.Mark.{place-marks}
 use Rattle.p3_step.specs.Key.{withTone, toneMade, appended, markOrLater, hornOrLater, keyCells}
-use Rattle.p3_step.specs.Step.{toneFor, uoFor, uaFor, markAt, markStep, uaStep, uoStep, stepOf, putCell, alsoCell}
+use Rattle.p3_step.specs.Mirror.{toneFor, uoFor, uaFor, markAt, markStep, uaStep, uoStep, stepOf, putCell, alsoCell}
 use Rattle.p3_step.specs.declared.Change.the-variants.{Tone, Pair, Append}
 use Rattle.p3_step.specs.declared.Step.{Step}
 
@@ -94,7 +94,8 @@ pair-makes cs i key k h =
       at = rw n l;
       also = rw (d, n) h;
       cells = λ rest r. rw (d, List·getD-append cs rest blank i l, List·getD-append cs rest blank (suc i) h, none-more cs rest)
-          (ap (λ (xs : List Cell). set xs (suc i) hornO) (set-append-left cs rest i u l) ∙ set-append-left (set cs i u) rest (suc i) hornO t);
+          (ap (λ (xs : List Cell). set xs (suc i) hornO) (set-append-left cs rest i u l)
+          ∙ set-append-left (set cs i u) rest (suc i) hornO t);
     }
 
 -- ---- one more cell
@@ -112,7 +113,8 @@ append-makes cs key k =
     ends (b ∷ rest) r =
         let d : length cs + 1 - length cs ≡ 1 = omega arith in
         rw d
-        (set-set (cs ++ b ∷ rest) (length cs) (typed key) (typed key) ∙ set-append-seam cs b rest (typed key) ∙ sym (append-snoc cs (typed key) rest))
+        (set-set (cs ++ b ∷ rest) (length cs) (typed key) (typed key) ∙ set-append-seam cs b rest (typed key)
+        ∙ sym (append-snoc cs (typed key) rest))
 
 -- ---- the steps in their order, by the places that are found
 mark-step-makes : (m : InputMethod) (cs : List Cell) (key k : ℕ) → Makes (markStep m cs k) cs (markOrLater m cs key k) key k
@@ -120,7 +122,8 @@ unfolding markStep markOrLater markMade
 mark-step-makes m cs key k = go (markPlace m cs k) refl
   where
     go : (p : Place) → markPlace m cs k ≡ p
-        → Makes (placeOr p (λ i. markAt cs (markFor m (baseAt cs i) k) i) (record { change = Append; at = length cs; also = length cs; mark = 0; count = length cs + 1 })) cs
+        → Makes (placeOr p (λ i. markAt cs (markFor m (baseAt cs i) k) i)
+        (record { change = Append; at = length cs; also = length cs; mark = 0; count = length cs + 1 })) cs
         (placeOr p (λ i. set cs i (marked (getD cs i blank) (markFor m (baseAt cs i) k))) (appended cs key)) key k
     go Nowhere e = append-makes cs key k
     go (At i) e = mark-makes cs i (markFor m (baseAt cs i) k) key k (place-marks m cs k i e .below)
@@ -132,21 +135,25 @@ uo-step-makes m cs key k = go (isHornKey m k) (uoPlace cs) (uaPlace cs) refl ref
     go : (v : Bool) (p q : Place) → uoPlace cs ≡ p → uaPlace cs ≡ q
         → Makes (placeOr (pick v p Nowhere) (λ i. record { change = Pair; at = i; also = i + 1; mark = 0; count = length cs })
         (placeOr (pick v q Nowhere) (λ i. markAt cs 0x1b0 i) (markStep m cs k))) cs
-        (pick v (placeOr p (uoMade cs) (placeOr q (λ i. set cs i (marked (getD cs i blank) 0x1b0)) (markOrLater m cs key k))) (markOrLater m cs key k)) key k
+        (pick v (placeOr p (uoMade cs) (placeOr q (λ i. set cs i (marked (getD cs i blank) 0x1b0)) (markOrLater m cs key k)))
+        (markOrLater m cs key k)) key k
     go false p q e f = mark-step-makes m cs key k
     go true (At i) q e f = pair-makes cs i key k (uo-below cs i e)
     go true Nowhere (At i) e f = mark-makes cs i 0x1b0 key k (ua-below cs i f)
     go true Nowhere Nowhere e f = mark-step-makes m cs key k
 
 -- the step of a key makes the cells after the key
-pub step-makes : (m : InputMethod) (cs : List Cell) (key : ℕ) → Makes (stepOf m cs (asciiLower key)) cs (keyCells m cs key) key (asciiLower key)
+pub step-makes : (m : InputMethod) (cs : List Cell) (key : ℕ)
+    → Makes (stepOf m cs (asciiLower key)) cs (keyCells m cs key) key (asciiLower key)
 unfolding stepOf toneFor keyCells toneMade
 step-makes m cs key = go (isToneKey m (asciiLower key)) (anyVowel cs) refl refl
   where
     go : (u v : Bool) → isToneKey m (asciiLower key) ≡ u → anyVowel cs ≡ v
-        → Makes (placeOr (pick u (pick v (At (tonePlace cs)) Nowhere) Nowhere) (λ i. record { change = Tone; at = i; also = i; mark = 0; count = length cs }) (uoStep m cs (asciiLower key)))
+        → Makes (placeOr (pick u (pick v (At (tonePlace cs)) Nowhere) Nowhere)
+        (λ i. record { change = Tone; at = i; also = i; mark = 0; count = length cs }) (uoStep m cs (asciiLower key)))
         cs
-        (pick u (pick v (set cs (tonePlace cs) (withTone (getD cs (tonePlace cs) blank) (asciiLower key))) (hornOrLater m cs key (asciiLower key))) (hornOrLater m cs key (asciiLower key)))
+        (pick u (pick v (set cs (tonePlace cs) (withTone (getD cs (tonePlace cs) blank) (asciiLower key)))
+        (hornOrLater m cs key (asciiLower key))) (hornOrLater m cs key (asciiLower key)))
         key (asciiLower key)
     go true true e f =
         tone-makes cs (tonePlace cs) key (asciiLower key) (tone-below cs (vowel-some cs f)) (tone-key-small m (asciiLower key) e)

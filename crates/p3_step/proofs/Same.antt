@@ -8,10 +8,11 @@ use Rattle.p0_choice.specs.Choice.{each}
 use Rattle.p2_input_method.specs.Rules.{markFor}
 use Rattle.p2_input_method.specs.declared.InputMethod.{InputMethod}
 use Rattle.p3_cells.specs.Cells.{isCell}
-use Rattle.p3_cells.specs.Places.{placeOr}
+use Rattle.p3_cells.specs.Place.{placeOr}
 use Rattle.p3_cells.specs.declared.Cell.{Cell}
-use Rattle.p3_row.specs.Row.{rowCells, bases}
-use Rattle.p3_place.proofs.Same.{any-same, tone-place-same}
+use Rattle.p3_cells.specs.Row.{bases}
+use Rattle.p3_cells.specs.Mirror.{rowCells}
+use Rattle.p3_tone.proofs.Same.{any-same, tone-place-same}
 use Rattle.p3_marks.specs.Uo.{baseAt}
 use Rattle.p3_marks.specs.Mark.{markPlace}
 use Rattle.p3_cells.specs.declared.Place.{Place}
@@ -20,7 +21,7 @@ use Rattle.p3_marks.proofs.Base.{same-base, same-length}
 use Rattle.p3_marks.proofs.Uo.{uo-same}
 use Rattle.p3_marks.proofs.Ua.{ua-same}
 use Rattle.p3_marks.proofs.Mark.{mark-same}
-use Rattle.p3_step.specs.Step.{toneFor, uoFor, uaFor, markAt, markStep, uaStep, uoStep, stepOf}
+use Rattle.p3_step.specs.Mirror.{toneFor, uoFor, uaFor, markAt, markStep, uaStep, uoStep, stepOf}
 use Rattle.p3_step.specs.declared.Change.the-variants.{Append}
 
 mark-step-same : (m : InputMethod) (cs : List Cell) (k : ℕ) → markStep m (rowCells (bases cs)) k ≡ markStep m cs k
@@ -29,8 +30,16 @@ mark-step-same m cs k = rw (mark-same m cs k) (go (markPlace m cs k))
   where
     go : (p : Place)
         → placeOr p (λ i. markAt (rowCells (bases cs)) (markFor m (baseAt (rowCells (bases cs)) i) k) i)
-        (record { change = Append; at = length (rowCells (bases cs)); also = length (rowCells (bases cs)); mark = 0; count = length (rowCells (bases cs)) + 1 })
-        ≡ placeOr p (λ i. markAt cs (markFor m (baseAt cs i) k) i) (record { change = Append; at = length cs; also = length cs; mark = 0; count = length cs + 1 })
+        (record {
+          change = Append;
+          at = length (rowCells (bases cs));
+          also = length (rowCells (bases cs));
+          mark = 0;
+          count = length
+              (rowCells (bases cs)) + 1;
+        })
+        ≡ placeOr p (λ i. markAt cs (markFor m (baseAt cs i) k) i)
+        (record { change = Append; at = length cs; also = length cs; mark = 0; count = length cs + 1 })
     go Nowhere = rw (same-length cs) refl
     go (At i) = rw (same-base cs i, same-length cs) refl
 

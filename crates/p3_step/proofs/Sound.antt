@@ -10,12 +10,12 @@ use Rattle.p1_letters.specs.Alphabet.{inAlphabet, asciiLower}
 use Rattle.p2_input_method.specs.Rules.{isToneKey, isHornKey, markFor}
 use Rattle.p2_input_method.specs.declared.InputMethod.{InputMethod}
 use Rattle.p3_cells.specs.Cells.{blank, typed, marks, isCell}
-use Rattle.p3_cells.specs.Places.{placeOr}
+use Rattle.p3_cells.specs.Place.{placeOr}
 use Rattle.p3_cells.specs.declared.Cell.{Cell}
 use Rattle.p0_choice.proofs.Tests.{each-at, each-set, each-append}
 use Rattle.p3_cells.proofs.Made.{tone-key-tone, mark-for-mark, typed-cell, toned-cell, marked-cell, bare-marked-cell}
-use Rattle.p3_place.specs.Place.{anyVowel, tonePlace}
-use Rattle.p3_place.proofs.Bound.{vowel-some, tone-below}
+use Rattle.p3_tone.specs.TonePlace.{anyVowel, tonePlace}
+use Rattle.p3_tone.proofs.Bound.{vowel-some, tone-below}
 use Rattle.p3_marks.specs.Uo.{baseAt, uoPlace, hornU, hornO, uoMade}
 use Rattle.p3_marks.specs.Ua.{uaPlace, marked, uaMade}
 use Rattle.p3_marks.specs.Mark.{markPlace, markMade}
@@ -31,7 +31,8 @@ module _ (m : InputMethod) (cs : List Cell) (s : each isCell cs ≡ true) where
   marked-kept : (i l : ℕ) → i < length cs → among l marks ≡ true → each isCell (set cs i (marked (getD cs i blank) l)) ≡ true
   unfolding marked
   marked-kept i l h e =
-      each-set isCell cs i (marked (getD cs i blank) l) s (marked-cell l (getD cs i blank) (getD cs i blank .upper) e (each-at isCell blank cs s i h))
+      each-set isCell cs i (marked (getD cs i blank) l) s
+      (marked-cell l (getD cs i blank) (getD cs i blank .upper) e (each-at isCell blank cs s i h))
 
   horn-mark : among 0x1b0 marks ≡ true
   unfolding marks word
@@ -41,7 +42,8 @@ module _ (m : InputMethod) (cs : List Cell) (s : each isCell cs ≡ true) where
   unfolding uoMade hornU marks word
   pair-kept i h =
       each-set isCell (set cs i (hornU (getD cs i blank) (getD cs (suc i) blank))) (suc i) hornO
-      (each-set isCell cs i (hornU (getD cs i blank) (getD cs (suc i) blank)) s (marked-cell 0x1b0 (getD cs (suc i) blank) (getD cs i blank .upper) horn-mark (each-at isCell blank cs s (suc i) h)))
+      (each-set isCell cs i (hornU (getD cs i blank) (getD cs (suc i) blank)) s
+      (marked-cell 0x1b0 (getD cs (suc i) blank) (getD cs i blank .upper) horn-mark (each-at isCell blank cs s (suc i) h)))
       (bare-marked-cell 0x1a1 false refl)
 
   module _ (key : ℕ) (a : inAlphabet key ≡ true) where
@@ -49,16 +51,19 @@ module _ (m : InputMethod) (cs : List Cell) (s : each isCell cs ≡ true) where
     unfolding markOrLater markMade appended
     mark-kept k = go (markPlace m cs k) refl
       where
-        go : (p : Place) → markPlace m cs k ≡ p → each isCell (placeOr p (λ i. set cs i (marked (getD cs i blank) (markFor m (baseAt cs i) k))) (cs ++ (typed key ∷ []))) ≡ true
+        go : (p : Place) → markPlace m cs k ≡ p
+            → each isCell (placeOr p (λ i. set cs i (marked (getD cs i blank) (markFor m (baseAt cs i) k))) (cs ++ (typed key ∷ []))) ≡ true
         go Nowhere e = each-append isCell cs (typed key) s (typed-cell key a)
-        go (At i) e = let h = place-marks m cs k i e in marked-kept i (markFor m (baseAt cs i) k) (h .below) (mark-for-mark m (baseAt cs i) k (h .rule))
+        go (At i) e = let h = place-marks m cs k i e in
+            marked-kept i (markFor m (baseAt cs i) k) (h .below) (mark-for-mark m (baseAt cs i) k (h .rule))
 
     horn-kept : (k : ℕ) → each isCell (hornOrLater m cs key k) ≡ true
     unfolding hornOrLater uaMade
     horn-kept k = go (isHornKey m k) (uoPlace cs) (uaPlace cs) refl refl
       where
         go : (v : Bool) (p q : Place) → uoPlace cs ≡ p → uaPlace cs ≡ q
-            → each isCell (pick v (placeOr p (uoMade cs) (placeOr q (λ i. set cs i (marked (getD cs i blank) 0x1b0)) (markOrLater m cs key k))) (markOrLater m cs key k)) ≡ true
+            → each isCell (pick v (placeOr p (uoMade cs)
+            (placeOr q (λ i. set cs i (marked (getD cs i blank) 0x1b0)) (markOrLater m cs key k))) (markOrLater m cs key k)) ≡ true
         go false p q e f = mark-kept k
         go true (At i) q e f = pair-kept i (uo-below cs i e)
         go true Nowhere (At i) e f = marked-kept i 0x1b0 (ua-below cs i f) horn-mark
@@ -69,9 +74,11 @@ module _ (m : InputMethod) (cs : List Cell) (s : each isCell cs ≡ true) where
     key-cells-kept = go (isToneKey m (asciiLower key)) (anyVowel cs) refl refl
       where
         go : (u v : Bool) → isToneKey m (asciiLower key) ≡ u → anyVowel cs ≡ v
-            → each isCell (pick u (pick v (set cs (tonePlace cs) (withTone (getD cs (tonePlace cs) blank) (asciiLower key))) (hornOrLater m cs key (asciiLower key))) (hornOrLater m cs key (asciiLower key))) ≡ true
+            → each isCell (pick u (pick v (set cs (tonePlace cs) (withTone (getD cs (tonePlace cs) blank) (asciiLower key)))
+            (hornOrLater m cs key (asciiLower key))) (hornOrLater m cs key (asciiLower key))) ≡ true
         go true true e f =
             each-set isCell cs (tonePlace cs) (withTone (getD cs (tonePlace cs) blank) (asciiLower key)) s
-            (toned-cell (getD cs (tonePlace cs) blank) (asciiLower key) (each-at isCell blank cs s (tonePlace cs) (tone-below cs (vowel-some cs f))) (tone-key-tone m (asciiLower key) e))
+            (toned-cell (getD cs (tonePlace cs) blank) (asciiLower key)
+            (each-at isCell blank cs s (tonePlace cs) (tone-below cs (vowel-some cs f))) (tone-key-tone m (asciiLower key) e))
         go true false e f = horn-kept (asciiLower key)
         go false v e f = horn-kept (asciiLower key)

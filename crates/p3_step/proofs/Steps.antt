@@ -11,10 +11,10 @@ use Rattle.p1_letters.specs.Alphabet.{asciiLower}
 use Rattle.p2_input_method.specs.Rules.{isToneKey, isHornKey, markFor}
 use Rattle.p2_input_method.specs.declared.InputMethod.{InputMethod}
 use Rattle.p3_cells.specs.Cells.{limit}
-use Rattle.p3_row.specs.Row.{rowCells}
-use Rattle.p3_row.proofs.Row.{row-length}
-use Rattle.p3_place.specs.Place.{anyVowel, tonePlace}
-use Rattle.p3_place.proofs.Bound.{vowel-some}
+use Rattle.p3_cells.specs.Mirror.{rowCells}
+use Rattle.p3_cells.proofs.Row.{row-length}
+use Rattle.p3_tone.specs.TonePlace.{anyVowel, tonePlace}
+use Rattle.p3_tone.proofs.Bound.{vowel-some}
 use Rattle.p3_marks.specs.Uo.{uoPlace}
 use Rattle.p3_marks.specs.Mark.{markPlace}
 use Rattle.p3_cells.specs.declared.Place.{Place}
@@ -22,7 +22,7 @@ use Rattle.p3_cells.specs.declared.Place.the-variants.{Nowhere, At}
 use Rattle.p3_marks.proofs.Base.{row-base}
 use Rattle.p3_marks.proofs.Uo.{uo-below}
 use Rattle.p3_marks.proofs.Mark.{place-marks}
-use Rattle.p3_step.specs.Step.{toneFor, uoFor, uaFor, markStep, uaStep, uoStep, stepOf}
+use Rattle.p3_step.specs.Mirror.{toneFor, uoFor, uaFor, markStep, uaStep, uoStep, stepOf}
 use Rattle.p3_step.specs.declared.Change.the-variants.{Tone, Mark, Pair, Append}
 use Rattle.p3_step.specs.declared.Step.{Step}
 
@@ -37,13 +37,15 @@ module _ (m : InputMethod) (row : List ℕ) (k : ℕ) (f : Place) where
     unfolding markStep
     mark-found i b l q p r = rw (← e, q, row-base row i, ← p, ← r, row-length row) refl
 
-    pub mark-none : f ≡ Nowhere → record { change = Append; at = length row; also = length row; mark = 0; count = length row + 1 } ≡ markStep m (rowCells row) k
+    pub mark-none : f ≡ Nowhere → record
+        { change = Append; at = length row; also = length row; mark = 0; count = length row + 1 } ≡ markStep m (rowCells row) k
     unfolding markStep
     mark-none q = rw (← e, q, row-length row) refl
 
   -- ---- ua, else mark
   module _ (e : f ≡ uaFor m (rowCells row) k) where
-    pub ua-found : (i : ℕ) → f ≡ At i → record { change = Mark; at = i; also = i; mark = 0x1b0; count = length row } ≡ uaStep m (rowCells row) k
+    pub ua-found : (i : ℕ) → f ≡ At i
+        → record { change = Mark; at = i; also = i; mark = 0x1b0; count = length row } ≡ uaStep m (rowCells row) k
     unfolding uaStep
     ua-found i q = rw (← e, q, row-length row) refl
 
@@ -64,7 +66,8 @@ module _ (m : InputMethod) (row : List ℕ) (k : ℕ) (f : Place) where
     pub uo-fits : (i : ℕ) → f ≡ At i → length row ≤ limit → i + 1 < 2 ^ 64
     uo-fits i q h = let l = uo-in i q in omega arith
 
-    pub uo-found : (i : ℕ) → f ≡ At i → record { change = Pair; at = i; also = i + 1; mark = 0; count = length row } ≡ uoStep m (rowCells row) k
+    pub uo-found : (i : ℕ) → f ≡ At i
+        → record { change = Pair; at = i; also = i + 1; mark = 0; count = length row } ≡ uoStep m (rowCells row) k
     unfolding uoStep
     uo-found i q = rw (← e, q, row-length row) refl
 
@@ -74,7 +77,8 @@ module _ (m : InputMethod) (row : List ℕ) (k : ℕ) (f : Place) where
 
   -- ---- tone, else uo
   module _ (e : f ≡ toneFor m (rowCells row) k) where
-    pub tone-found : (i : ℕ) → f ≡ At i → record { change = Tone; at = i; also = i; mark = 0; count = length row } ≡ stepOf m (rowCells row) k
+    pub tone-found : (i : ℕ) → f ≡ At i
+        → record { change = Tone; at = i; also = i; mark = 0; count = length row } ≡ stepOf m (rowCells row) k
     unfolding stepOf
     tone-found i q = rw (← e, q, row-length row) refl
 
@@ -85,7 +89,8 @@ module _ (m : InputMethod) (row : List ℕ) (k : ℕ) (f : Place) where
 pub row-some : (row : List ℕ) (v : Bool) → v ≡ anyVowel (rowCells row) → not v ≡ false → 0 < length row
 row-some row v e t = rw (row-length row) at (vowel-some (rowCells row) (sym e ∙ not-false v t))
 
-pub tone-at : (m : InputMethod) (row : List ℕ) (k : ℕ) (u v : Bool) (i : ℕ) → u ≡ isToneKey m k → not u ≡ false → v ≡ anyVowel (rowCells row) → not v ≡ false → i ≡ tonePlace (rowCells row)
+pub tone-at : (m : InputMethod) (row : List ℕ) (k : ℕ) (u v : Bool) (i : ℕ) → u ≡ isToneKey m k → not u ≡ false
+    → v ≡ anyVowel (rowCells row) → not v ≡ false → i ≡ tonePlace (rowCells row)
     → At i ≡ toneFor m (rowCells row) k
 unfolding toneFor
 tone-at m row k u v i e t f s h = rw (← e, not-false u t, ← f, not-false v s, h) refl

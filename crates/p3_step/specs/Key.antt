@@ -7,9 +7,9 @@ use Rattle.p1_letters.specs.Alphabet.{asciiLower}
 use Rattle.p2_input_method.specs.Rules.{isToneKey, isHornKey}
 use Rattle.p2_input_method.specs.declared.InputMethod.{InputMethod}
 use Rattle.p3_cells.specs.Cells.{blank, typed}
-use Rattle.p3_cells.specs.Places.{placeOr}
+use Rattle.p3_cells.specs.Place.{placeOr}
 use Rattle.p3_cells.specs.declared.Cell.{Cell}
-use Rattle.p3_place.specs.Place.{anyVowel, tonePlace}
+use Rattle.p3_tone.specs.TonePlace.{anyVowel, tonePlace}
 use Rattle.p3_marks.specs.Uo.{uoPlace, uoMade}
 use Rattle.p3_marks.specs.Ua.{uaPlace, uaMade}
 use Rattle.p3_marks.specs.Mark.{markPlace, markMade}

@@ -4,8 +4,8 @@ ghost use mathlib.Core.Path.{_≡_};
 ghost use Prim.Native.Nat.{_≤_};
 ghost use lib.ListN.{length};
 ghost use Rattle.p3_cells.specs.Cells.{limit};
-ghost use Rattle.p3_row.specs.Row.{rowCells};
-ghost use Rattle.p3_step.specs.Step.{toneFor, uoFor, uaFor, markStep, uaStep, uoStep, stepOf, putCell, alsoCell};
+ghost use Rattle.p3_cells.specs.Mirror.{rowCells};
+ghost use Rattle.p3_step.specs.Mirror.{toneFor, uoFor, uaFor, markStep, uaStep, uoStep, stepOf, putCell, alsoCell};
 use p1_letters as letters;
 use p2_input_method as input_method;
 use p2_input_method::InputMethod;
@@ -13,7 +13,7 @@ use p3_cells as cells;
 use p3_cells::Cell;
 use p3_cells::Place;
 use p3_marks as marks;
-use p3_place as place;
+use p3_tone as place;
 
 // What comes at a place: the cell as it is, with a tone, with a mark, the ư of a pair, or a typed letter.
 pub enum Change {

@@ -35,6 +35,7 @@ module _ (raw : List ℕ) (a t : ℕ) where
   last-end-is (suc zero) = λ j l h. absurd (omega arith)
   last-end-is (suc (suc i)) = go (pairAt raw a t i) refl (last-end-is (suc i))
     where
-      go : (b : Bool) → pairAt raw a t i ≡ b → LastAt raw a t (suc i) (lastEnd raw a t (suc i)) → LastAt raw a t (suc (suc i)) (pick b (suc (suc i)) (lastEnd raw a t (suc i)))
+      go : (b : Bool) → pairAt raw a t i ≡ b → LastAt raw a t (suc i) (lastEnd raw a t (suc i))
+          → LastAt raw a t (suc (suc i)) (pick b (suc (suc i)) (lastEnd raw a t (suc i)))
       go true p f = (omega arith, p, λ j l h. absurd (omega arith))
       go false p f = last-more i (lastEnd raw a t (suc i)) p f

@@ -5,3 +5,4 @@ pub mod Found
 pub mod Call
 pub mod Kept
 pub mod InWords
+pub mod Only

@@ -13,22 +13,23 @@ use borrow.Author.Tests.{eq-eqb, ne-eqb}
 use Rattle.p0_choice.specs.Choice.{pick, among}
 use Rattle.p0_choice.specs.Text.{word}
 use Rattle.p1_letters.specs.Alphabet.{isAsciiCapital, asciiLower}
-use Rattle.p3_undo.specs.Raw.{lowered, endsIn, pairAt, lastEnd, anyPlain, active}
+use Rattle.p3_undo.specs.Raw.{rawLowered, endsIn, pairAt, lastEnd, anyPlain, active}
 
-pub length-lowered : (raw : List ℕ) → length (lowered raw) ≡ length raw
-unfolding lowered
+pub length-lowered : (raw : List ℕ) → length (rawLowered raw) ≡ length raw
+unfolding rawLowered
 length-lowered raw = length-map raw asciiLower
 
-pub low-is : (raw : List ℕ) (i r : ℕ) → r ≡ asciiLower (getD raw i 0) → r ≡ getD (lowered raw) i 0
-unfolding lowered asciiLower isAsciiCapital
+pub low-is : (raw : List ℕ) (i r : ℕ) → r ≡ asciiLower (getD raw i 0) → r ≡ getD (rawLowered raw) i 0
+unfolding rawLowered asciiLower isAsciiCapital
 low-is raw i r e = e ∙ sym (List·getD-map asciiLower raw i 0)
 
 -- ---- its end
-pub ends-none : (raw : List ℕ) (t : ℕ) → length raw ≡ 0 → false ≡ endsIn (lowered raw) t
+pub ends-none : (raw : List ℕ) (t : ℕ) → length raw ≡ 0 → false ≡ endsIn (rawLowered raw) t
 unfolding endsIn
 ends-none raw t z = rw (length-lowered raw, z) refl
 
-pub ends-is : (raw : List ℕ) (t x : ℕ) → (length raw ≡ 0 → ⊥) → x ≡ getD (lowered raw) (length raw - 1) 0 → eqb x t ≡ endsIn (lowered raw) t
+pub ends-is : (raw : List ℕ) (t x : ℕ) → (length raw ≡ 0 → ⊥) → x ≡ getD (rawLowered raw) (length raw - 1) 0
+    → eqb x t ≡ endsIn (rawLowered raw) t
 unfolding endsIn
 ends-is raw t x h e = rw (length-lowered raw, ← e, ne-eqb (length raw) 0 h) refl
 
@@ -71,33 +72,34 @@ module _ (s : ℕ) (raw : List ℕ) (a t i : ℕ) (e : s ≡ lastEnd raw a t i) 
   end-on v h p q = rw (e, end-turn h, ← p, q) refl
 
 -- ---- a vowel after it
-module _ (s : Bool) (raw : List ℕ) (i : ℕ) (e : s ≡ anyPlain (drop i (lowered raw))) where
-  plain-turn : i < length raw → s ≡ pick (among (getD (lowered raw) i 0) (word "aeiouy")) true (anyPlain (drop (i + 1) (lowered raw)))
+module _ (s : Bool) (raw : List ℕ) (i : ℕ) (e : s ≡ anyPlain (drop i (rawLowered raw))) where
+  plain-turn : i < length raw → s ≡ pick (among (getD (rawLowered raw) i 0) (word "aeiouy")) true (anyPlain (drop (i + 1) (rawLowered raw)))
   unfolding anyPlain
-  plain-turn l = let h : i < length (lowered raw) = rw (length-lowered raw) l in e ∙ rw (add-one i, drop-cons (lowered raw) i 0 h) refl
+  plain-turn l = let h : i < length (rawLowered raw) = rw (length-lowered raw) l in
+      e ∙ rw (add-one i, drop-cons (rawLowered raw) i 0 h) refl
 
   pub plain-none : length raw ≤ i → false ≡ s
   unfolding anyPlain
-  plain-none l = let h : length (lowered raw) ≤ i = rw (length-lowered raw) l in sym (e ∙ rw (drop-of-length-le (lowered raw) h) refl)
+  plain-none l = let h : length (rawLowered raw) ≤ i = rw (length-lowered raw) l in sym (e ∙ rw (drop-of-length-le (rawLowered raw) h) refl)
 
-  module _ (x : ℕ) (v : Bool) (l : i < length raw) (p : x ≡ getD (lowered raw) i 0) (q : v ≡ among x (word "aeiouy")) where
-    turned : s ≡ pick v true (anyPlain (drop (i + 1) (lowered raw)))
+  module _ (x : ℕ) (v : Bool) (l : i < length raw) (p : x ≡ getD (rawLowered raw) i 0) (q : v ≡ among x (word "aeiouy")) where
+    turned : s ≡ pick v true (anyPlain (drop (i + 1) (rawLowered raw)))
     turned = rw (q, p) (plain-turn l)
 
     pub plain-found : v ≡ true → true ≡ s
     plain-found t = sym (turned ∙ rw t refl)
 
-    pub plain-on : v ≡ false → s ≡ anyPlain (drop (i + 1) (lowered raw))
+    pub plain-on : v ≡ false → s ≡ anyPlain (drop (i + 1) (rawLowered raw))
     plain-on t = turned ∙ rw t refl
 
-module _ (raw : List ℕ) (a t e : ℕ) (p : e ≡ lastEnd (lowered raw) a t (length raw)) where
-  found : lastEnd (lowered raw) a t (length (lowered raw)) ≡ e
+module _ (raw : List ℕ) (a t e : ℕ) (p : e ≡ lastEnd (rawLowered raw) a t (length raw)) where
+  found : lastEnd (rawLowered raw) a t (length (rawLowered raw)) ≡ e
   found = rw (length-lowered raw) (sym p)
 
-  pub active-none : e ≡ 0 → false ≡ active (lowered raw) a t
+  pub active-none : e ≡ 0 → false ≡ active (rawLowered raw) a t
   unfolding active
   active-none q = rw (found, q) refl
 
-  pub active-some : (v : Bool) → (e ≡ 0 → ⊥) → v ≡ anyPlain (drop e (lowered raw)) → not v ≡ active (lowered raw) a t
+  pub active-some : (v : Bool) → (e ≡ 0 → ⊥) → v ≡ anyPlain (drop e (rawLowered raw)) → not v ≡ active (rawLowered raw) a t
   unfolding active
   active-some v q h = rw (found, ne-eqb e 0 q, ← h) refl

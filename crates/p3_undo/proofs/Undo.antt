@@ -6,41 +6,46 @@ use mathlib.Core.List.{List}
 use native.Mathlib.Omega.{arith}
 use native.Mathlib.Numerals.{add-one}
 use lib.ListN.{length, getD, drop, drop-of-length-le}
-use lib.Seq.{drop-cons, getD-take, length-take-le}
+use lib.Seq.{drop-cons}
 use borrow.Author.Tests.{eq-eqb, ne-eqb, not-true, not-false}
 use Rattle.p0_choice.specs.Choice.{pick}
 use Rattle.p0_choice.proofs.Choices.{pick-true, pick-false}
 use Rattle.p1_letters.specs.Alphabet.{asciiUpper}
-use Rattle.p2_input_method.specs.Rules.{markRules, noRule}
+use Rattle.p2_input_method.specs.Rules.{markRules}
+use Rattle.p2_input_method.specs.Mirror.{noRule}
 use Rattle.p2_input_method.specs.declared.InputMethod.{InputMethod}
 use Rattle.p2_input_method.specs.declared.InputMethod.the-variants.{Telex, Vni}
 use Rattle.p2_input_method.specs.declared.MarkRule.{MarkRule}
 use Rattle.p3_cells.specs.Cells.{limit, blank, used}
-use Rattle.p3_cells.specs.Places.{placeOr}
+use Rattle.p3_cells.specs.Place.{placeOr}
 use Rattle.p3_cells.specs.declared.Cell.{Cell}
 use Rattle.p3_cells.specs.declared.Composition.{Composition}
+use Rattle.p3_cells.proofs.Holding.{used-count, used-at}
 use Rattle.p3_undo.specs.Raw.{endsIn, active}
-use Rattle.p3_undo.specs.Undo.{lastWith, hasTone, hasMark, ruleAt, byRules, toneAt, toUndo, toneless, restored}
+use Rattle.p3_undo.specs.Undo.{lastWith, hasTone, hasMark, ruleAt, byRules, toneAt, toUndo, toneLost, restored}
 use Rattle.p3_cells.specs.declared.Place.{Place}
 use Rattle.p3_cells.specs.declared.Place.the-variants.{Nowhere, At}
 use Rattle.p3_undo.specs.declared.Undoing.{Undoing}
 use Rattle.p3_undo.specs.declared.Undoing.the-variants.{Nothing, Tone, Mark}
 
 -- ---- a cell
-pub toneless-is : (x : Cell) → record { base = x .base; mark = x .mark; tone = 0; upper = x .upper } ≡ toneless x
-unfolding toneless
+pub toneless-is : (x : Cell) → record { base = x .base; mark = x .mark; tone = 0; upper = x .upper } ≡ toneLost x
+unfolding toneLost
 toneless-is x = refl
 
-pub restored-small : (a : ℕ) (x : Cell) → not (x .upper) ≡ true → record { base = a; mark = 0; tone = x .tone; upper = x .upper } ≡ restored a x
+pub restored-small : (a : ℕ) (x : Cell) → not (x .upper) ≡ true
+    → record { base = a; mark = 0; tone = x .tone; upper = x .upper } ≡ restored a x
 unfolding restored
 restored-small a x h =
-    ap (λ (b : ℕ). record { base = b; mark = 0; tone = x .tone; upper = x .upper }) (pick-false (x .upper) a (asciiUpper a) a (not-true (x .upper) h) refl)
+    ap (λ (b : ℕ). record { base = b; mark = 0; tone = x .tone; upper = x .upper })
+    (pick-false (x .upper) a (asciiUpper a) a (not-true (x .upper) h) refl)
 
 pub restored-capital : (a b : ℕ) (x : Cell) → not (x .upper) ≡ false → b ≡ asciiUpper a
     → record { base = b; mark = 0; tone = x .tone; upper = x .upper } ≡ restored a x
 unfolding restored
 restored-capital a b x h e =
-    ap (λ (b : ℕ). record { base = b; mark = 0; tone = x .tone; upper = x .upper }) (pick-true (x .upper) b (asciiUpper a) a (not-false (x .upper) h) e)
+    ap (λ (b : ℕ). record { base = b; mark = 0; tone = x .tone; upper = x .upper })
+    (pick-true (x .upper) b (asciiUpper a) a (not-false (x .upper) h) e)
 
 -- ---- the last cell that passes a test
 module _ (p : Cell → Bool) (c : Composition) (s : Place) (i : ℕ) (e : s ≡ lastWith p (used c) i) where
@@ -50,9 +55,9 @@ module _ (p : Cell → Bool) (c : Composition) (s : Place) (i : ℕ) (e : s ≡ 
 
   module _ (x : Cell) (v : Bool) (h : 0 < i) (k : i ≤ c .count) (f : x ≡ getD (c .cells) (i - 1) blank) (q : v ≡ p x) where
     with-turn : s ≡ pick v (At (i - 1)) (lastWith p (used c) (i - 1))
-    unfolding lastWith used
+    unfolding lastWith
     with-turn =
-        let g : v ≡ p (getD (used c) (i - 1) blank) = q ∙ ap p (f ∙ sym (getD-take (c .count) (c .cells) (i - 1) blank (omega arith))) in
+        let g : v ≡ p (getD (used c) (i - 1) blank) = q ∙ ap p (f ∙ sym (used-at c (i - 1) (omega arith))) in
         e ∙ go i h ∙ ap (λ (b : Bool). pick b (At (i - 1)) (lastWith p (used c) (i - 1))) (sym g)
       where
         go : (i : ℕ) → 0 < i → lastWith p (used c) i ≡ pick (p (getD (used c) (i - 1) blank)) (At (i - 1)) (lastWith p (used c) (i - 1))
@@ -66,10 +71,6 @@ module _ (p : Cell → Bool) (c : Composition) (s : Place) (i : ℕ) (e : s ≡ 
     with-on t = with-turn ∙ rw t refl
 
 -- ---- the rules
-used-count : (c : Composition) → c .count ≤ limit → length (c .cells) ≡ limit → length (used c) ≡ c .count
-unfolding used
-used-count c l n = length-take-le (c .count) (c .cells) (omega arith)
-
 module _ (c : Composition) (raw : List ℕ) (t : ℕ) (r : MarkRule) where
   pub rule-key : (r .key ≡ t → ⊥) → Nowhere ≡ ruleAt (used c) raw t r
   unfolding ruleAt
@@ -80,10 +81,11 @@ module _ (c : Composition) (raw : List ℕ) (t : ℕ) (r : MarkRule) where
     unfolding ruleAt
     rule-idle q = rw (eq-eqb (r .key) t h, ← e, not-true v q) refl
 
-    pub rule-last : (p : Place) → not v ≡ false → p ≡ lastWith (hasMark (r .result)) (used c) (c .count) → c .count ≤ limit → length (c .cells) ≡ limit
+    pub rule-last : (p : Place) → not v ≡ false → p ≡ lastWith (hasMark (r .result)) (used c) (c .count) → c .count ≤ limit
+        → length (c .cells) ≡ limit
         → p ≡ ruleAt (used c) raw t r
     unfolding ruleAt
-    rule-last p q f l n = rw (eq-eqb (r .key) t h, ← e, not-false v q, used-count c l n) f
+    rule-last p q f l n = rw (eq-eqb (r .key) t h, ← e, not-false v q, used-count c (omega arith)) f
 
 module _ (cs : List Cell) (raw : List ℕ) (t : ℕ) (s : Undoing) (i : ℕ) (e : s ≡ byRules cs raw t (drop i (markRules Telex))) where
   pub rules-none : 7 ≤ i → Nothing ≡ s
@@ -91,11 +93,11 @@ module _ (cs : List Cell) (raw : List ℕ) (t : ℕ) (s : Undoing) (i : ℕ) (e 
   rules-none l = sym (e ∙ rw (drop-of-length-le (markRules Telex) l) refl)
 
   module _ (r : MarkRule) (p : Place) (l : i < 7) (f : r ≡ getD (markRules Telex) i noRule) (q : p ≡ ruleAt cs raw t r) where
-    rules-turn : s ≡ placeOr p (λ (j : ℕ). Mark j (r .first) (r .undo)) (byRules cs raw t (drop (i + 1) (markRules Telex)))
+    rules-turn : s ≡ placeOr p (λ (j : ℕ). Mark j r) (byRules cs raw t (drop (i + 1) (markRules Telex)))
     unfolding byRules markRules
     rules-turn = e ∙ rw (add-one i, drop-cons (markRules Telex) i noRule l, ← f, ← q) refl
 
-    pub rules-found : (j : ℕ) → p ≡ At j → Mark j (r .first) (r .undo) ≡ s
+    pub rules-found : (j : ℕ) → p ≡ At j → Mark j r ≡ s
     rules-found j h = sym (rules-turn ∙ rw h refl)
 
     pub rules-on : p ≡ Nowhere → s ≡ byRules cs raw t (drop (i + 1) (markRules Telex))
@@ -110,7 +112,7 @@ module _ (c : Composition) (raw : List ℕ) (t : ℕ) (v : Bool) (e : v ≡ ends
   pub tone-last : (p : Place) → not v ≡ false → p ≡ lastWith (hasTone t) (used c) (c .count) → c .count ≤ limit → length (c .cells) ≡ limit
       → p ≡ toneAt (used c) raw t
   unfolding toneAt
-  tone-last p q f l n = rw (← e, not-false v q, used-count c l n) f
+  tone-last p q f l n = rw (← e, not-false v q, used-count c (omega arith)) f
 
 -- ---- first the tone, then the rules
 pub undo-vni : (m : InputMethod) (cs : List Cell) (raw : List ℕ) (t : ℕ) → m ≡ Vni → Nothing ≡ toUndo m cs raw t

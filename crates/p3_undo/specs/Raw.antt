@@ -8,8 +8,8 @@ use Rattle.p0_choice.specs.Choice.{pick, among}
 use Rattle.p0_choice.specs.Text.{word}
 use Rattle.p1_letters.specs.Alphabet.{asciiLower}
 
-unfoldable pub lowered : List ℕ → List ℕ
-lowered raw = map asciiLower raw
+unfoldable pub rawLowered : List ℕ → List ℕ
+rawLowered raw = map asciiLower raw
 
 -- "the raw string ends in t, either case"
 unfoldable pub endsIn : List ℕ → ℕ → Bool

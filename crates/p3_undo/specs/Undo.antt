@@ -11,7 +11,7 @@ use Rattle.p2_input_method.specs.declared.InputMethod.{InputMethod}
 use Rattle.p2_input_method.specs.declared.InputMethod.the-variants.{Telex, Vni}
 use Rattle.p2_input_method.specs.declared.MarkRule.{MarkRule}
 use Rattle.p3_cells.specs.Cells.{blank}
-use Rattle.p3_cells.specs.Places.{placeOr}
+use Rattle.p3_cells.specs.Place.{placeOr}
 use Rattle.p3_cells.specs.declared.Cell.{Cell}
 use Rattle.p3_undo.specs.Raw.{endsIn, active}
 use Rattle.p3_cells.specs.declared.Place.{Place}
@@ -41,20 +41,20 @@ ruleAt cs raw t r =
 -- "each mark rule .. in order", "No such cell: next rule."
 unfoldable pub byRules : List Cell → List ℕ → ℕ → List MarkRule → Undoing
 byRules cs raw t [] = Nothing
-byRules cs raw t (r ∷ rs) = placeOr (ruleAt cs raw t r) (λ i. Mark i (r .first) (r .undo)) (byRules cs raw t rs)
+byRules cs raw t (r ∷ rs) = placeOr (ruleAt cs raw t r) (λ i. Mark i r) (byRules cs raw t rs)
 
 -- "If the raw string ends in t, either case, the last cell with tone t [..] Otherwise each mark rule"
 unfoldable pub toneAt : List Cell → List ℕ → ℕ → Place
 toneAt cs raw t = pick (endsIn raw t) (lastWith (hasTone t) cs (length cs)) Nowhere
 
--- "only under Telex"
+-- "only under Telex"; "VNI has none."
 unfoldable pub toUndo : InputMethod → List Cell → List ℕ → ℕ → Undoing
 toUndo Telex cs raw t = placeOr (toneAt cs raw t) (λ i. Tone i) (byRules cs raw t (markRules Telex))
 toUndo Vni cs raw t = Nothing
 
 -- "loses it"
-unfoldable pub toneless : Cell → Cell
-toneless x = record { base = x .base; mark = x .mark; tone = 0; upper = x .upper }
+unfoldable pub toneLost : Cell → Cell
+toneLost x = record { base = x .base; mark = x .mark; tone = 0; upper = x .upper }
 
 -- "gets the rule's first letter back, capital if flagged, mark gone"
 unfoldable pub restored : ℕ → Cell → Cell
@@ -63,5 +63,5 @@ restored a x = record { base = pick (x .upper) (asciiUpper a) a; mark = 0; tone 
 -- the cells after it
 unfoldable pub undone : List Cell → Undoing → List Cell
 undone cs Nothing = cs
-undone cs (Tone i) = set cs i (toneless (getD cs i blank))
-undone cs (Mark i a b) = set cs i (restored a (getD cs i blank))
+undone cs (Tone i) = set cs i (toneLost (getD cs i blank))
+undone cs (Mark i r) = set cs i (restored (r .first) (getD cs i blank))

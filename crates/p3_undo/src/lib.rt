@@ -9,22 +9,20 @@ ghost use Rattle.p0_choice.specs.Text.{word};
 ghost use Rattle.p2_input_method.specs.Rules.{markRules};
 ghost use Rattle.p2_input_method.specs.declared.InputMethod.the-variants.{Telex};
 ghost use Rattle.p3_cells.specs.Cells.{limit, isSound, used};
-ghost use Rattle.p3_undo.specs.Raw.{lowered, endsIn, pairAt, lastEnd, anyPlain, active};
-ghost use Rattle.p3_undo.specs.Undo.{lastWith, hasTone, hasMark, ruleAt, byRules, toneAt, toUndo, toneless as tonelessOf, restored as restoredOf};
-ghost use Rattle.p3_undo.specs.Call.{toldOf, refused, undoFound, undoTelex};
+ghost use Rattle.p3_undo.specs.Raw.{rawLowered, endsIn, pairAt, lastEnd, anyPlain, active};
+ghost use Rattle.p3_undo.specs.Undo.{lastWith, hasTone, hasMark, ruleAt, byRules, toneAt, toUndo, toneLost as tonelessOf};
+ghost use Rattle.p3_undo.specs.Undo.{restored as restoredOf};
+ghost use Rattle.p3_undo.specs.Call.{behaviour as behaviourOf, notUndone, undoFound, undoTelex};
+use p0_refusals::LETTERS;
 use p0_refusals::Refusal;
 use p1_letters as letters;
 use p2_input_method as input_method;
 use p2_input_method::InputMethod;
 use p2_input_method::MarkRule;
-use p2_input_method::UndoBehavior;
 use p3_cells as cells;
 use p3_cells::Cell;
 use p3_cells::Composition;
 use p3_cells::Place;
-
-// The longest raw string.
-pub const RAW: usize = 64;
 
 // What becomes of the trigger, or why nothing was undone.
 pub enum TelexUndo {
@@ -38,25 +36,25 @@ pub struct Undone {
     pub answer: TelexUndo,
 }
 
-// The cell that loses its tone; or the cell that gets a rule's first letter back, with that letter and the rule's behaviour.
+// The cell that loses its tone; or the cell that gets a rule's first letter back, with that rule.
 pub enum Undoing {
     Nothing,
     Tone(usize),
-    Mark(usize, u32, UndoBehavior),
+    Mark(usize, MarkRule),
 }
 
 // ---- the raw string
 
 fn low_at(raw: &[u32], i: usize) -> u32
     requires { ⌜ i < length (now raw) ⌝ }
-    ensures { λ r. ⌜ r ≡ getD (lowered (now (raw .entry))) i 0 ⌝ }
+    ensures { λ r. ⌜ r ≡ getD (rawLowered (now (raw .entry))) i 0 ⌝ }
 {
     let x = raw[i];
     letters::ascii_lower(x)
 }
 
 fn ends_in(raw: &[u32], t: u32) -> bool
-    ensures { λ r. ⌜ r ≡ endsIn (lowered (now (raw .entry))) t ⌝ }
+    ensures { λ r. ⌜ r ≡ endsIn (rawLowered (now (raw .entry))) t ⌝ }
 {
     let n = raw.len();
     if n == 0 {
@@ -67,7 +65,7 @@ fn ends_in(raw: &[u32], t: u32) -> bool
 
 fn pair_at(raw: &[u32], a: u32, t: u32, i: usize) -> bool
     requires { ⌜ i + 1 < length (now raw) ⌝ }
-    ensures { λ r. ⌜ r ≡ pairAt (lowered (now (raw .entry))) a t i ⌝ }
+    ensures { λ r. ⌜ r ≡ pairAt (rawLowered (now (raw .entry))) a t i ⌝ }
 {
     if low_at(raw, i) != a {
         return false;
@@ -76,7 +74,7 @@ fn pair_at(raw: &[u32], a: u32, t: u32, i: usize) -> bool
 }
 
 fn last_end(raw: &[u32], a: u32, t: u32) -> usize
-    ensures { λ r. ⌜ (r ≡ lastEnd (lowered (now (raw .entry))) a t (length (now (raw .entry)))) × (r ≤ length (now (raw .entry))) ⌝ }
+    ensures { λ r. ⌜ (r ≡ lastEnd (rawLowered (now (raw .entry))) a t (length (now (raw .entry)))) × (r ≤ length (now (raw .entry))) ⌝ }
 {
     let mut i = raw.len();
     while 1 < i {
@@ -99,7 +97,7 @@ fn is_plain(x: u32) -> bool
 
 fn any_plain(raw: &[u32], from: usize) -> bool
     requires { ⌜ from ≤ length (now raw) ⌝ }
-    ensures { λ r. ⌜ r ≡ anyPlain (drop from (lowered (now (raw .entry)))) ⌝ }
+    ensures { λ r. ⌜ r ≡ anyPlain (drop from (rawLowered (now (raw .entry)))) ⌝ }
 {
     let mut i = from;
     while i < raw.len() {
@@ -113,7 +111,7 @@ fn any_plain(raw: &[u32], from: usize) -> bool
 }
 
 fn has_active_mark_pattern(raw: &[u32], a: u32, t: u32) -> bool
-    ensures { λ r. ⌜ r ≡ active (lowered (now (raw .entry))) a t ⌝ }
+    ensures { λ r. ⌜ r ≡ active (rawLowered (now (raw .entry))) a t ⌝ }
 {
     let e = last_end(raw, a, t);
     if e == 0 {
@@ -176,7 +174,7 @@ fn last_marked(c: Composition, m: u16) -> Place
 
 fn rule_at(c: Composition, raw: &[u32], t: u32, r: MarkRule) -> Place
     requires { ⌜ c .count ≤ limit ⌝ }
-    ensures { λ p. ⌜ p ≡ ruleAt (used c) (lowered (now (raw .entry))) t r ⌝ }
+    ensures { λ p. ⌜ p ≡ ruleAt (used c) (rawLowered (now (raw .entry))) t r ⌝ }
 {
     if r.key != t {
         return Place::Nowhere;
@@ -189,15 +187,14 @@ fn rule_at(c: Composition, raw: &[u32], t: u32, r: MarkRule) -> Place
 
 fn by_rules(c: Composition, raw: &[u32], t: u32) -> Undoing
     requires { ⌜ c .count ≤ limit ⌝ }
-    ensures { λ r. ⌜ r ≡ byRules (used c) (lowered (now (raw .entry))) t (markRules Telex) ⌝ }
+    ensures { λ r. ⌜ r ≡ byRules (used c) (rawLowered (now (raw .entry))) t (markRules Telex) ⌝ }
 {
     let mut i: usize = 0;
     while i < input_method::TELEX_RULES {
         let r = input_method::telex_rule(i);
         let p = rule_at(c, raw, t, r);
         if let Place::At(j) = p {
-            let b = r.undo;
-            return Undoing::Mark(j, r.first, b);
+            return Undoing::Mark(j, r);
         }
         i += 1;
     }
@@ -206,7 +203,7 @@ fn by_rules(c: Composition, raw: &[u32], t: u32) -> Undoing
 
 fn tone_at(c: Composition, raw: &[u32], t: u32) -> Place
     requires { ⌜ c .count ≤ limit ⌝ }
-    ensures { λ r. ⌜ r ≡ toneAt (used c) (lowered (now (raw .entry))) t ⌝ }
+    ensures { λ r. ⌜ r ≡ toneAt (used c) (rawLowered (now (raw .entry))) t ⌝ }
 {
     if !ends_in(raw, t) {
         return Place::Nowhere;
@@ -216,7 +213,7 @@ fn tone_at(c: Composition, raw: &[u32], t: u32) -> Place
 
 fn to_undo(c: Composition, raw: &[u32], t: u32) -> Undoing
     requires { ⌜ c .count ≤ limit ⌝ }
-    ensures { λ r. ⌜ r ≡ toUndo (c .method) (used c) (lowered (now (raw .entry))) t ⌝ }
+    ensures { λ r. ⌜ r ≡ toUndo (c .method) (used c) (rawLowered (now (raw .entry))) t ⌝ }
 {
     let m = c.method;
     if let InputMethod::Vni = m {
@@ -231,7 +228,7 @@ fn to_undo(c: Composition, raw: &[u32], t: u32) -> Undoing
 
 // ---- the call
 
-fn toneless(x: Cell) -> Cell
+fn tone_lost(x: Cell) -> Cell
     ensures { λ r. ⌜ r ≡ tonelessOf x ⌝ }
 {
     Cell {
@@ -262,19 +259,23 @@ fn restored(a: u32, x: Cell) -> Cell
     }
 }
 
-fn told(b: UndoBehavior) -> TelexUndo
-    ensures { λ r. ⌜ r ≡ toldOf b ⌝ }
+// dd consumes its trigger, the others append it.
+fn behaviour(r: MarkRule) -> TelexUndo
+    ensures { λ a. ⌜ a ≡ behaviourOf r ⌝ }
 {
-    match b {
-        UndoBehavior::AppendTrigger => TelexUndo::AppendTrigger,
-        UndoBehavior::ConsumeTrigger => TelexUndo::ConsumeTrigger,
+    if r.first != 100 {
+        return TelexUndo::AppendTrigger;
     }
+    if r.key != 100 {
+        return TelexUndo::AppendTrigger;
+    }
+    TelexUndo::ConsumeTrigger
 }
 
 // Stores what is found.
 fn undo_found(mut c: Composition, raw: &[u32], t: u32) -> Undone
     requires { ⌜ isSound c ≡ true ⌝ }
-    ensures { λ r. ⌜ r ≡ undoFound c (toUndo (c .method) (used c) (lowered (now (raw .entry))) t) ⌝ }
+    ensures { λ r. ⌜ r ≡ undoFound c (toUndo (c .method) (used c) (rawLowered (now (raw .entry))) t) ⌝ }
 {
     let u = to_undo(c, raw, t);
     match u {
@@ -284,25 +285,25 @@ fn undo_found(mut c: Composition, raw: &[u32], t: u32) -> Undone
         },
         Undoing::Tone(i) => {
             let x = c.cells[i];
-            let y = toneless(x);
+            let y = tone_lost(x);
             c.cells[i] = y;
             Undone {
                 comp: c,
                 answer: TelexUndo::AppendTrigger,
             }
         }
-        Undoing::Mark(i, a, b) => {
+        Undoing::Mark(i, r) => {
             let x = c.cells[i];
-            let y = restored(a, x);
+            let y = restored(r.first, x);
             c.cells[i] = y;
-            let w = told(b);
+            let w = behaviour(r);
             Undone { comp: c, answer: w }
         }
     }
 }
 
 fn refuse(c: Composition, why: Refusal) -> Undone
-    ensures { λ r. ⌜ r ≡ refused c why ⌝ }
+    ensures { λ r. ⌜ r ≡ notUndone c why ⌝ }
 {
     Undone {
         comp: c,
@@ -316,7 +317,7 @@ pub fn undo_telex_transform(c: Composition, trigger: u32, raw: &[u32]) -> Undone
     if !cells::sound(c) {
         return refuse(c, Refusal::Unsound);
     }
-    if RAW < raw.len() {
+    if LETTERS < raw.len() {
         return refuse(c, Refusal::Long);
     }
     if !letters::in_alphabet(trigger) {

@@ -17,7 +17,7 @@ use Rattle.p0_choice.proofs.Arms.{among-yes, amongAny, Missed, rest-among}
 use Rattle.p4_rows.specs.declared.Rows.{Rows}
 use Rattle.p4_rows.specs.Rows.{Word, onsetRows, vowelRows, codaRows}
 use Rattle.p4_rows.specs.Lookup.{sameWord, inList, rowsFrom, rowsOf}
-use Rattle.p4_rows.specs.Keys.{keyOf, keyRows, onsetKeys, vowelKeys, codaKeys, rowsOnFrom, rowsOn, spread}
+use Rattle.p4_rows.specs.Mirror.{keyOf, keyRows, onsetKeys, vowelKeys, codaKeys, rowsOnFrom, rowsOn, spread}
 use Rattle.p4_rows.proofs.Words.{same-word}
 
 -- what a word with a key is
@@ -58,7 +58,11 @@ keyed (a ∷ b ∷ []) = keyed-two a b
 keyed (a ∷ b ∷ c ∷ []) = keyed-three a b c
 keyed (a ∷ b ∷ c ∷ d ∷ w) =
     none
-    (rw (ne-eqb (length (a ∷ b ∷ c ∷ d ∷ w)) 0 (λ (e : length (a ∷ b ∷ c ∷ d ∷ w) ≡ 0). omega arith), lt-ltb 3 (length (a ∷ b ∷ c ∷ d ∷ w)) (omega arith)))
+    (rw (
+      ne-eqb (length (a ∷ b ∷ c ∷ d ∷ w)) 0
+          (λ (e : length (a ∷ b ∷ c ∷ d ∷ w) ≡ 0). omega arith),
+      lt-ltb 3 (length (a ∷ b ∷ c ∷ d ∷ w)) (omega arith),
+    ))
 
 -- the last letter and what stands before it
 digits : (x b y d : ℕ) → b < 0x10000 → d < 0x10000 → x * 0x10000 + b ≡ y * 0x10000 + d → (x ≡ y) × (b ≡ d)
@@ -124,12 +128,14 @@ in-keys w (u ∷ us) t =
     both-same (sameWord w u) (eqb (keyOf w) (keyOf u)) (inList w us) (among (keyOf w) (map keyOf us))
     (same-key w u (rw (pick-first (hasKey u) (each hasKey us) t) tt)) (in-keys w us (pick-second (hasKey u) (each hasKey us) t))
 
-rows-keyed : (i : ℕ) (rows : List (List Word)) (w : Word) → T (each (each hasKey) rows) → rowsFrom i rows w ≡ rowsOnFrom i (keyRows rows) (keyOf w)
+rows-keyed : (i : ℕ) (rows : List (List Word)) (w : Word) → T (each (each hasKey) rows)
+    → rowsFrom i rows w ≡ rowsOnFrom i (keyRows rows) (keyOf w)
 unfolding rowsFrom rowsOnFrom keyRows
 rows-keyed i [] w t = refl
 rows-keyed i (r ∷ rs) w t =
     alike (inList w r) (among (keyOf w) (map keyOf r)) (rowsFrom (suc i) rs w) (rowsOnFrom (suc i) (keyRows rs) (keyOf w))
-    (in-keys w r (rw (pick-first (each hasKey r) (each (each hasKey) rs) t) tt)) (rows-keyed (suc i) rs w (pick-second (each hasKey r) (each (each hasKey) rs) t))
+    (in-keys w r (rw (pick-first (each hasKey r) (each (each hasKey) rs) t) tt))
+    (rows-keyed (suc i) rs w (pick-second (each hasKey r) (each (each hasKey) rs) t))
   where
     alike : (a b : Bool) (l m : List ℕ) → a ≡ b → l ≡ m → pick a (i ∷ l) l ≡ pick b (i ∷ m) m
     alike a b l m e f = ap₂ (λ (x : Bool) (y : List ℕ). pick x (i ∷ y) y) e f

@@ -1,6 +1,7 @@
 pub mod Words
-pub mod Listed
+pub mod InRows
 pub mod Keys
 pub mod Matrices
 pub mod Pairs
 pub mod Spread
+pub mod Only

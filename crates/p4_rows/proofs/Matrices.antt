@@ -6,15 +6,15 @@ use mathlib.Core.List.{List, [], _∷_, map}
 use native.Mathlib.Omega.{arith}
 use lib.Dec.{T, leb}
 use lib.ListN.{length, getD}
-use Rattle.p0_choice.specs.Choice.{among, count, each}
+use Rattle.p0_choice.specs.Choice.{among, from, each}
 use Rattle.p0_choice.proofs.Tables.{among-above, pick-first, pick-second}
 use Rattle.p4_rows.specs.Lookup.{allows}
 
 -- w columns wide
 unfoldable pub yesNo : ℕ → List (List ℕ) → List (List Bool)
-yesNo w g = map (λ (row : List ℕ). map (λ (j : ℕ). among j row) (count w 0)) g
+yesNo w g = map (λ (row : List ℕ). map (λ (j : ℕ). among j row) (from w 0)) g
 
-column : (f : ℕ → Bool) (w k j x : ℕ) → k + j ≡ x → j < w → getD (map f (count w k)) j false ≡ f x
+column : (f : ℕ → Bool) (w k j x : ℕ) → k + j ≡ x → j < w → getD (map f (from w k)) j false ≡ f x
 column f zero k j x e h = absurd (omega arith)
 column f (suc w) k zero x e h = let d : k ≡ x = omega arith in ap f d
 column f (suc w) k (suc j) x e h = column f w (suc k) j x (omega arith) (omega arith)
@@ -32,7 +32,8 @@ no-row (row ∷ g) zero j h = absurd (omega arith)
 no-row (row ∷ g) (suc i) j h = no-row g i j (omega arith)
 
 -- the greatest number of a row is n
-pub no-column : (n : ℕ) (g : List (List ℕ)) → T (each (λ (row : List ℕ). each (λ (y : ℕ). leb y n) row) g) → (i j : ℕ) → n < j → false ≡ allows g i j
+pub no-column : (n : ℕ) (g : List (List ℕ)) → T (each (λ (row : List ℕ). each (λ (y : ℕ). leb y n) row) g) → (i j : ℕ) → n < j
+    → false ≡ allows g i j
 unfolding allows
 no-column n [] t i j h = refl
 no-column n (row ∷ g) t zero j h = sym (among-above row n (rw (pick-first (each (λ (y : ℕ). leb y n) row) _ t) tt) j h)

@@ -12,7 +12,7 @@ use Rattle.p0_choice.specs.Choice.{pick}
 use Rattle.p0_choice.proofs.Numbers.{below-or-not}
 use Rattle.p4_rows.specs.declared.Rows.{Rows}
 use Rattle.p4_rows.specs.Lookup.{allows, allowsAny, goTogether}
-use Rattle.p4_rows.specs.Keys.{shown}
+use Rattle.p4_rows.specs.Mirror.{rowNumbers}
 
 -- f looks through rows for one that p takes
 record Searches (f : List ℕ → Bool) (p : ℕ → Bool) : Type 0 where
@@ -53,8 +53,8 @@ module _ (r : Rows) (n : ℕ) (e : n ≡ min (r .count) 2) (two : length (r .row
   row-room : n ≤ length (r .rows)
   row-room = omega arith
 
-  rows-shown : take n (r .rows) ≡ shown r
-  unfolding shown
+  rows-shown : take n (r .rows) ≡ rowNumbers r
+  unfolding rowNumbers
   rows-shown =
       ⊎-elim (λ h. take-all n (r .rows) (omega arith) ∙ sym (take-all (r .count) (r .rows) (omega arith)))
       (λ h. let k : n ≡ r .count = omega arith in rw k) (below-or-not 2 (r .count))
@@ -74,21 +74,24 @@ module _ (g : List (List ℕ)) (o v : Rows) (m n : ℕ) (em : m ≡ min (o .coun
   row-o : m ≤ length (o .rows)
   row-o = row-room o m em lo
 
-  both-shown : goTogether g (take m (o .rows)) (take n (v .rows)) ≡ goTogether g (shown o) (shown v)
+  both-shown : goTogether g (take m (o .rows)) (take n (v .rows)) ≡ goTogether g (rowNumbers o) (rowNumbers v)
   both-shown = ap₂ (λ (is js : List ℕ). goTogether g is js) (rows-shown o m em lo) (rows-shown v n en lv)
 
   -- r is the code's answer for the pair
-  pub row-on : (a j : ℕ) (r : Bool) → RowRest g a n (v .rows) j → j < n → r ≡ allows g a (getD (v .rows) j 0) → r ≡ false → RowRest g a n (v .rows) (j + 1)
+  pub row-on : (a j : ℕ) (r : Bool) → RowRest g a n (v .rows) j → j < n → r ≡ allows g a (getD (v .rows) j 0) → r ≡ false
+      → RowRest g a n (v .rows) (j + 1)
   row-on a j r e h t f = e ∙ miss n (v .rows) row-v j (row-searches g a) h (sym t ∙ f)
 
   module _ (i j : ℕ) (e : PairRest g m (o .rows) n (v .rows) i) (h : i < m) (e′ : RowRest g (getD (o .rows) i 0) n (v .rows) j) where
     pub pair-on : n ≤ j → PairRest g m (o .rows) n (v .rows) (i + 1)
     pair-on k = e ∙ miss m (o .rows) row-o i (pair-searches g _) h (e′ ∙ end n (v .rows) row-v j (row-searches g _) k)
 
-    pub pair-found : (r : Bool) → j < n → r ≡ allows g (getD (o .rows) i 0) (getD (v .rows) j 0) → r ≡ true → true ≡ goTogether g (shown o) (shown v)
+    pub pair-found : (r : Bool) → j < n → r ≡ allows g (getD (o .rows) i 0) (getD (v .rows) j 0) → r ≡ true
+        → true ≡ goTogether g (rowNumbers o) (rowNumbers v)
     pair-found r k t f =
         sym (e ∙ hit m (o .rows) row-o i (pair-searches g _) h (e′ ∙ hit n (v .rows) row-v j (row-searches g _) k (sym t ∙ f)))
         ∙ both-shown
 
-  pub pair-none : (i : ℕ) (r : Bool) → PairRest g m (o .rows) n (v .rows) i → r ≡ false → m ≤ i → r ≡ goTogether g (shown o) (shown v)
+  pub pair-none : (i : ℕ) (r : Bool) → PairRest g m (o .rows) n (v .rows) i → r ≡ false → m ≤ i
+      → r ≡ goTogether g (rowNumbers o) (rowNumbers v)
   pair-none i r e f h = f ∙ sym (e ∙ end m (o .rows) row-o i (pair-searches g _) h) ∙ both-shown

@@ -1,4 +1,3 @@
 pub mod Rows
 pub mod Lookup
-pub mod Matrices
-pub mod Keys
+pub mod Mirror

@@ -33,8 +33,8 @@ isEmpty [] = true
 isEmpty (x ∷ xs) = false
 
 -- a part is listed if it stands in some row
-unfoldable pub listed : List (List Word) → Word → Bool
-listed rows w = pick (isEmpty (rowsOf rows w)) false true
+unfoldable pub inRows : List (List Word) → Word → Bool
+inRows rows w = pick (isEmpty (rowsOf rows w)) false true
 
 -- "two matrices of row numbers say which rows go together": row i with row j, with one of the rows js, one of is with one of js
 unfoldable pub allows : List (List ℕ) → ℕ → ℕ → Bool

@@ -4,8 +4,8 @@ ghost use mathlib.Core.Path.{_≡_};
 ghost use Prim.Native.Nat.{min};
 ghost use Rattle.p4_rows.specs.Rows.{onsetRows, vowelRows, codaRows, onsetToVowels, vowelsToCoda};
 ghost use Rattle.p4_rows.specs.Lookup.{rowsOf, allows as allowed, goTogether};
-ghost use Rattle.p4_rows.specs.Matrices.{pairsOf};
-ghost use Rattle.p4_rows.specs.Keys.{keyOf, rowsOn, onsetKeys, vowelKeys, codaKeys, spread, shown};
+ghost use Rattle.p4_rows.specs.Mirror.{pairsOf};
+ghost use Rattle.p4_rows.specs.Mirror.{keyOf, rowsOn, onsetKeys, vowelKeys, codaKeys, spread, rowNumbers};
 
 // The numbers of the rows that a part stands in: the first `count` of `rows`. No part stands in more than two.
 pub struct Rows {
@@ -316,7 +316,7 @@ fn held(count: usize) -> usize
 
 // Some row of the first part goes with some row of the second: the search ends at the first pair allowed.
 fn pair_valid(matrix: Matrix, first: Rows, second: Rows) -> bool
-    ensures { λ r. ⌜ r ≡ goTogether (pairsOf matrix) (shown first) (shown second) ⌝ }
+    ensures { λ r. ⌜ r ≡ goTogether (pairsOf matrix) (rowNumbers first) (rowNumbers second) ⌝ }
 {
     let m = held(first.count);
     let n = held(second.count);
@@ -338,14 +338,14 @@ fn pair_valid(matrix: Matrix, first: Rows, second: Rows) -> bool
 
 // Some row of the onset goes with some row of the vowels.
 pub fn cv_valid(onset: Rows, vowels: Rows) -> bool
-    ensures { λ r. ⌜ r ≡ goTogether onsetToVowels (shown onset) (shown vowels) ⌝ }
+    ensures { λ r. ⌜ r ≡ goTogether onsetToVowels (rowNumbers onset) (rowNumbers vowels) ⌝ }
 {
     pair_valid(Matrix::OnsetToVowels, onset, vowels)
 }
 
 // Some row of the vowels goes with some row of the coda.
 pub fn vc_valid(vowels: Rows, coda: Rows) -> bool
-    ensures { λ r. ⌜ r ≡ goTogether vowelsToCoda (shown vowels) (shown coda) ⌝ }
+    ensures { λ r. ⌜ r ≡ goTogether vowelsToCoda (rowNumbers vowels) (rowNumbers coda) ⌝ }
 {
     pair_valid(Matrix::VowelsToCoda, vowels, coda)
 }

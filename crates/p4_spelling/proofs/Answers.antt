@@ -5,8 +5,9 @@ use mathlib.Core.Bool.{Bool, true}
 use native.Mathlib.Omega.{arith}
 use lib.ListN.{length, take, drop}
 use borrow.Author.Tests.{le-ltb}
+use Rattle.p0_refusals.specs.Limits.{letterLimit}
 use Rattle.p4_rows.specs.Rows.{Word}
-use Rattle.p4_spelling.specs.declared.Places.{Places}
+use Rattle.p4_spelling.specs.declared.CutPlaces.{CutPlaces}
 use Rattle.p4_spelling.specs.declared.Cut.the-variants.{At}
 use Rattle.p4_spelling.specs.declared.Verdict.the-variants.{Yes}
 use Rattle.p4_spelling.specs.Cut.{vowelRun, onsetEnd, vowelsEnd, onsetOf, vowelsOf, codaOf}
@@ -15,7 +16,7 @@ use Rattle.p4_spelling.specs.Answers.{permitted, placesOf, verdictAnswer
 use Rattle.p4_spelling.proofs.Letters.{accepted-letters}
 use Rattle.p4_spelling.proofs.Scans.{onset-le, vowels-le, onset-first}
 
-pub cut-at-is : (p q : Places) → p ≡ q → At p ≡ At q
+pub cut-at-is : (p q : CutPlaces) → p ≡ q → At p ≡ At q
 cut-at-is p q e = ap At e
 
 run-long : (w : Word) → take (vowelsEnd w - onsetEnd w) (drop (onsetEnd w) w) ≡ take (vowelRun (drop (onsetEnd w) w)) (drop (onsetEnd w) w)
@@ -23,9 +24,9 @@ unfolding vowelsEnd
 run-long w = let e : onsetEnd w + vowelRun (drop (onsetEnd w) w) - onsetEnd w ≡ vowelRun (drop (onsetEnd w) w) = omega arith in rw e
 
 -- an accepted word is permitted but for its length
-pub says-yes : (w : Word) (r : Bool) → length w ≤ 64 → r ≡ verdict w → r ≡ true → Yes ≡ verdictAnswer w
+pub says-yes : (w : Word) (r : Bool) → length w ≤ letterLimit → r ≡ verdict w → r ≡ true → Yes ≡ verdictAnswer w
 unfolding verdictAnswer permitted
-says-yes w r l e t = let v : verdict w ≡ true = sym e ∙ t in rw (le-ltb 64 (length w) l, accepted-letters w v, v)
+says-yes w r l e t = let v : verdict w ≡ true = sym e ∙ t in rw (le-ltb letterLimit (length w) l, accepted-letters w v, v)
 
 module _ (w : Word) where
   pub onset-at : onsetPart w (placesOf w) ≡ onsetOf w

@@ -1,4 +1,4 @@
--- The word in lower case without tones, a letter at a time, into an array of 8: no longer word is accepted.
+-- The word in lower case without tones, a letter at a time, into an array for the longest: no longer word is accepted.
 use Prim.Native.Nat.{ℕ, zero, suc, _+_, _-_, _≤_, _<_}
 use mathlib.Core.Path.{_≡_, refl, sym, ap, _∙_}
 use mathlib.Core.Bool.{Bool, true, false}
@@ -13,16 +13,16 @@ use Rattle.p0_choice.specs.Text.{word, words, wordsFrom}
 use Rattle.p1_letters.specs.Alphabet.{lower}
 use Rattle.p1_letters.specs.Tones.{toneOff}
 use Rattle.p4_rows.specs.Rows.{Word, onsetRows}
-use Rattle.p4_rows.specs.Lookup.{sameWord, inList, rowsFrom, rowsOf, listed}
+use Rattle.p4_rows.specs.Lookup.{sameWord, inList, rowsFrom, rowsOf, inRows}
 use Rattle.p4_spelling.specs.Cut.{beforeVowel, vowelRun, startsGlued, onsetEnd, onsetOf, vowelsOf}
-use Rattle.p4_spelling.specs.Verdict.{hasForeign, fits, lowered, toneless, verdict}
+use Rattle.p4_spelling.specs.Verdict.{hasForeign, fits, lowered, toneless, verdict, longestLength}
 use Rattle.p4_spelling.proofs.Parts.{fits-short}
 use Rattle.p4_spelling.proofs.Letters.{foreign-kept, fits-foreign, first-foreign}
 
 -- the first i letters are in the array
 pub record Folded (w plain : Word) (i : ℕ) : Type 0 where
   pub within : i ≤ length w
-  pub eight : length plain ≡ 8
+  pub eight : length plain ≡ longestLength
   pub is : toneless (lowered w) ≡ take i plain ++ toneless (lowered (drop i w))
 
 long-form : (w : Word) → length (toneless (lowered w)) ≡ length w
@@ -55,9 +55,10 @@ either-way w n = go (hasForeign (lowered w)) (fits (toneless (lowered w))) n
     go false true k = absurd (k tt)
     go false false k = refl
 
-pub too-long : (w : Word) → 8 < length w → false ≡ verdict w
+pub too-long : (w : Word) → longestLength < length w → false ≡ verdict w
 too-long w h =
-    either-way w (λ (t : T (fits (toneless (lowered w)))). let s : length (toneless (lowered w)) ≤ 8 = fits-short (toneless (lowered w)) t in omega (arith, long-form w))
+    either-way w
+    (λ (t : T (fits (toneless (lowered w)))). let s = fits-short (toneless (lowered w)) t in omega (arith, long-form w))
 
 form-cons : (x : ℕ) (w : Word) → toneless (lowered (x ∷ w)) ≡ toneOff (lower x) ∷ toneless (lowered w)
 unfolding toneless lowered
@@ -68,22 +69,25 @@ unfolding toneless lowered
 form-nil = refl
 
 empty-no : false ≡ verdict []
-unfolding verdict hasForeign lowered toneless fits vowelsOf onsetOf onsetEnd startsGlued beforeVowel vowelRun listed rowsOf rowsFrom inList sameWord onsetRows word words wordsFrom
+unfolding verdict hasForeign lowered toneless fits vowelsOf onsetOf onsetEnd startsGlued beforeVowel vowelRun inRows rowsOf rowsFrom inList
+    sameWord onsetRows word words wordsFrom
 empty-no = refl
 
-pub begin : (w plain : Word) → length plain ≡ 8 → Folded w plain 0
-begin w plain e = record { within = omega arith; eight = e; is = refl }
+pub fold-begin : (w plain : Word) → length plain ≡ longestLength → Folded w plain 0
+fold-begin w plain e = record { within = omega arith; eight = e; is = refl }
 
 module _ (w plain : Word) (i : ℕ) (k : Folded w plain i) where
-  pub fold-on : (x y : ℕ) → i < length w → x ≡ lower (getD w i 0) → y ≡ toneOff x → i < 8 → Folded w (set plain i y) (i + 1)
+  pub fold-on : (x y : ℕ) → i < length w → x ≡ lower (getD w i 0) → y ≡ toneOff x → i < longestLength → Folded w (set plain i y) (i + 1)
   fold-on x y l ex ey s = record {
     within = omega arith;
     eight = length-set plain i y ∙ k .eight;
     is =
         k .is ∙ ap (λ (u : Word). take i plain ++ toneless (lowered u)) (drop-cons w i 0 l)
-        ∙ ap (λ (u : Word). take i plain ++ u) (form-cons (getD w i 0) (drop (suc i) w) ∙ ap (λ (z : ℕ). z ∷ toneless (lowered (drop (suc i) w))) (sym (ey ∙ ap toneOff ex)))
+        ∙ ap (λ (u : Word). take i plain ++ u)
+        (form-cons (getD w i 0) (drop (suc i) w) ∙ ap (λ (z : ℕ). z ∷ toneless (lowered (drop (suc i) w))) (sym (ey ∙ ap toneOff ex)))
         ∙ sym (append-snoc (take i plain) y (toneless (lowered (drop (suc i) w))))
-        ∙ rw (add-one i) (ap (λ (u : Word). u ++ toneless (lowered (drop (suc i) w))) (sym (take-suc-set plain i y (omega (arith, k .eight)))));
+        ∙ rw (add-one i) (ap (λ (u : Word). u ++ toneless (lowered (drop (suc i) w)))
+        (sym (take-suc-set plain i y (omega (arith, k .eight)))));
   }
 
   -- all letters are in the array

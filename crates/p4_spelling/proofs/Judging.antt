@@ -10,12 +10,12 @@ use borrow.Author.Tests.{eqb-true, eqb-false, ne-eqb}
 use Rattle.p0_choice.specs.Choice.{pick}
 use Rattle.p4_rows.specs.declared.Rows.{Rows}
 use Rattle.p4_rows.specs.Rows.{Word, onsetRows, vowelRows, codaRows, onsetToVowels, vowelsToCoda}
-use Rattle.p4_rows.specs.Lookup.{rowsOf, isEmpty, listed, allowsAny, goTogether}
-use Rattle.p4_rows.specs.Keys.{spread, shown}
+use Rattle.p4_rows.specs.Lookup.{rowsOf, isEmpty, inRows, allowsAny, goTogether}
+use Rattle.p4_rows.specs.Mirror.{spread, rowNumbers}
 use Rattle.p4_rows.proofs.Spread.{onset-shown, vowels-shown, coda-shown, rows-none, rows-some}
-use Rattle.p4_spelling.specs.declared.Places.{Places}
+use Rattle.p4_spelling.specs.declared.CutPlaces.{CutPlaces}
 use Rattle.p4_spelling.specs.Cut.{vowelRun, onsetEnd, vowelsEnd, onsetOf, vowelsOf, codaOf}
-use Rattle.p4_spelling.specs.Verdict.{listedIfAny, onsetFits, codaFits, partsFit, fits}
+use Rattle.p4_spelling.specs.Verdict.{inRowsIfAny, onsetFits, codaFits, partsFit, fits}
 use Rattle.p4_spelling.specs.Answers.{placesOf}
 use Rattle.p4_spelling.proofs.Parts.{run-empty}
 use Rattle.p4_spelling.proofs.Scans.{onset-le, vowels-le, from-start, whole-rest}
@@ -35,7 +35,8 @@ module _ (w : Word) (rows : List ℕ) where
       go [] q = refl
       go (x ∷ u) q = absurd (omega arith)
 
-  pub some-coda : (c : Rows) (r : Bool) → (length w ≡ 0 → ⊥) → c ≡ spread (rowsOf codaRows w) → r ≡ goTogether vowelsToCoda rows (shown c) → r ≡ codaFits rows w
+  pub some-coda : (c : Rows) (r : Bool) → (length w ≡ 0 → ⊥) → c ≡ spread (rowsOf codaRows w)
+      → r ≡ goTogether vowelsToCoda rows (rowNumbers c) → r ≡ codaFits rows w
   unfolding codaFits
   some-coda c r h e q = q ∙ ap (λ (js : List ℕ). goTogether vowelsToCoda rows js) (coda-shown w c e) ∙ go w h
     where
@@ -44,10 +45,10 @@ module _ (w : Word) (rows : List ℕ) where
       go (x ∷ u) n = refl
 
 -- ---- a part that is not listed goes with none
-unlisted-onset : (w : Word) (rows : List ℕ) → listedIfAny onsetRows w ≡ false → onsetFits w rows ≡ false
-unfolding listedIfAny listed onsetFits goTogether
-unlisted-onset [] rows e = e
-unlisted-onset (x ∷ w) rows e = go (rowsOf onsetRows (x ∷ w)) e
+onset-in-no-row : (w : Word) (rows : List ℕ) → inRowsIfAny onsetRows w ≡ false → onsetFits w rows ≡ false
+unfolding inRowsIfAny inRows onsetFits goTogether
+onset-in-no-row [] rows e = e
+onset-in-no-row (x ∷ w) rows e = go (rowsOf onsetRows (x ∷ w)) e
   where
     go : (l : List ℕ) → pick (isEmpty l) false true ≡ false → goTogether onsetToVowels l rows ≡ false
     go [] q = refl
@@ -58,10 +59,10 @@ unfolding goTogether allowsAny
 none-with m [] = refl
 none-with m (i ∷ is) = none-with m is
 
-unlisted-coda : (w : Word) (rows : List ℕ) → listedIfAny codaRows w ≡ false → codaFits rows w ≡ false
-unfolding listedIfAny listed codaFits
-unlisted-coda [] rows e = e
-unlisted-coda (x ∷ w) rows e = go (rowsOf codaRows (x ∷ w)) e
+coda-in-no-row : (w : Word) (rows : List ℕ) → inRowsIfAny codaRows w ≡ false → codaFits rows w ≡ false
+unfolding inRowsIfAny inRows codaFits
+coda-in-no-row [] rows e = e
+coda-in-no-row (x ∷ w) rows e = go (rowsOf codaRows (x ∷ w)) e
   where
     go : (l : List ℕ) → pick (isEmpty l) false true ≡ false → goTogether vowelsToCoda rows l ≡ false
     go [] q = none-with vowelsToCoda rows
@@ -77,11 +78,12 @@ shorter false true c f g p q = rw (p refl)
 shorter false false c f g p q = refl
 
 parts-shorter : (o v c : Word)
-    → partsFit o v c ≡ pick (listed vowelRows v) (pick (onsetFits o (rowsOf vowelRows v)) (codaFits (rowsOf vowelRows v) c) false) false
+    → partsFit o v c ≡ pick (inRows vowelRows v) (pick (onsetFits o (rowsOf vowelRows v)) (codaFits (rowsOf vowelRows v) c) false) false
 unfolding partsFit
 parts-shorter o v c =
-    shorter (listedIfAny onsetRows o) (listed vowelRows v) (listedIfAny codaRows c) (onsetFits o (rowsOf vowelRows v)) (codaFits (rowsOf vowelRows v) c)
-    (unlisted-onset o (rowsOf vowelRows v)) (unlisted-coda c (rowsOf vowelRows v))
+    shorter (inRowsIfAny onsetRows o) (inRows vowelRows v) (inRowsIfAny codaRows c) (onsetFits o (rowsOf vowelRows v))
+    (codaFits (rowsOf vowelRows v) c)
+    (onset-in-no-row o (rowsOf vowelRows v)) (coda-in-no-row c (rowsOf vowelRows v))
 
 -- ---- the whole
 by-count : (l : List ℕ) (o : Rows) → o ≡ spread l → not (eqb (o .count) 0) ≡ pick (isEmpty l) false true
@@ -91,14 +93,14 @@ by-count l o e = go (eqb (o .count) 0) refl
     go true q = rw (rows-none l o e (eqb-true (o .count) 0 q))
     go false q = rw (rows-some l o e (eqb-false (o .count) 0 q))
 
-module _ (w : Word) (p : Places) (e : p ≡ placesOf w) where
+module _ (w : Word) (p : CutPlaces) (e : p ≡ placesOf w) where
   at-onset : p .onset ≡ onsetEnd w
   unfolding placesOf
-  at-onset = ap (λ (q : Places). q .onset) e
+  at-onset = ap (λ (q : CutPlaces). q .onset) e
 
   at-vowels : p .vowels ≡ vowelsEnd w
   unfolding placesOf
-  at-vowels = ap (λ (q : Places). q .vowels) e
+  at-vowels = ap (λ (q : CutPlaces). q .vowels) e
 
   onset-is : take (p .onset - 0) w ≡ onsetOf w
   unfolding onsetOf
@@ -133,26 +135,30 @@ module _ (w : Word) (p : Places) (e : p ≡ placesOf w) where
       go true q = absurd (h (none-run (rw q tt)))
       go false q = refl
 
-  pub bare-onset : (o : Rows) (r : Bool) → p .onset ≡ p .vowels → o ≡ spread (rowsOf onsetRows (take (p .onset - 0) w)) → r ≡ not (eqb (o .count) 0) → r ≡ fits w
-  unfolding fits listed
-  bare-onset o r h q f = f ∙ rw (no-vowels h) (by-count (rowsOf onsetRows (onsetOf w)) o (q ∙ ap (λ (u : Word). spread (rowsOf onsetRows u)) onset-is))
+  pub bare-onset : (o : Rows) (r : Bool) → p .onset ≡ p .vowels → o ≡ spread (rowsOf onsetRows (take (p .onset - 0) w))
+      → r ≡ not (eqb (o .count) 0) → r ≡ fits w
+  unfolding fits inRows
+  bare-onset o r h q f = f ∙ rw (no-vowels h)
+      (by-count (rowsOf onsetRows (onsetOf w)) o (q ∙ ap (λ (u : Word). spread (rowsOf onsetRows u)) onset-is))
 
   -- the vowels' rows are v's
-  module _ (v : Rows) (h : p .onset ≡ p .vowels → ⊥) (q : v ≡ spread (rowsOf vowelRows (take (p .vowels - p .onset) (drop (p .onset) w)))) where
+  module _ (v : Rows) (h : p .onset ≡ p .vowels → ⊥)
+      (q : v ≡ spread (rowsOf vowelRows (take (p .vowels - p .onset) (drop (p .onset) w)))) where
     rows-are : v ≡ spread (rowsOf vowelRows (vowelsOf w))
     rows-are = q ∙ ap (λ (u : Word). spread (rowsOf vowelRows u)) vowels-are
 
-    whole : fits w ≡ pick (listed vowelRows (vowelsOf w)) (pick (onsetFits (onsetOf w) (rowsOf vowelRows (vowelsOf w))) (codaFits (rowsOf vowelRows (vowelsOf w)) (codaOf w)) false) false
+    whole : fits w ≡ pick (inRows vowelRows (vowelsOf w))
+        (pick (onsetFits (onsetOf w) (rowsOf vowelRows (vowelsOf w))) (codaFits (rowsOf vowelRows (vowelsOf w)) (codaOf w)) false) false
     unfolding fits
     whole = rw (some-vowels h) (parts-shorter (onsetOf w) (vowelsOf w) (codaOf w))
 
-    pub vowels-unlisted : v .count ≡ 0 → false ≡ fits w
-    unfolding listed
-    vowels-unlisted c = sym (whole ∙ rw (rows-none (rowsOf vowelRows (vowelsOf w)) v rows-are c))
+    pub vowels-in-no-row : v .count ≡ 0 → false ≡ fits w
+    unfolding inRows
+    vowels-in-no-row c = sym (whole ∙ rw (rows-none (rowsOf vowelRows (vowelsOf w)) v rows-are c))
 
     module _ (c : v .count ≡ 0 → ⊥) (o : Rows) (d : o ≡ spread (rowsOf onsetRows (take (p .onset - 0) w))) (f : Bool)
-        (k : f ≡ pick (eqb (p .onset) 0) true (goTogether onsetToVowels (shown o) (shown v))) where
-      onset-rows : shown o ≡ rowsOf onsetRows (onsetOf w)
+        (k : f ≡ pick (eqb (p .onset) 0) true (goTogether onsetToVowels (rowNumbers o) (rowNumbers v))) where
+      onset-rows : rowNumbers o ≡ rowsOf onsetRows (onsetOf w)
       onset-rows = onset-shown (onsetOf w) o (d ∙ ap (λ (u : Word). spread (rowsOf onsetRows u)) onset-is)
 
       onset-says : onsetFits (onsetOf w) (rowsOf vowelRows (vowelsOf w)) ≡ f
@@ -160,11 +166,11 @@ module _ (w : Word) (p : Places) (e : p ≡ placesOf w) where
       onset-says = rw no-letters (sym (k ∙ rw (onset-rows, vowels-shown (vowelsOf w) v rows-are)))
 
       pub onset-unfit : f ≡ false → false ≡ fits w
-      unfolding listed
+      unfolding inRows
       onset-unfit n = sym (whole ∙ rw (rows-some (rowsOf vowelRows (vowelsOf w)) v rows-are c, onset-says, n))
 
-      pub coda-decides : (r : Bool) → f ≡ true → r ≡ codaFits (shown v) (take (length w - p .vowels) (drop (p .vowels) w)) → r ≡ fits w
-      unfolding listed
+      pub coda-decides : (r : Bool) → f ≡ true → r ≡ codaFits (rowNumbers v) (take (length w - p .vowels) (drop (p .vowels) w)) → r ≡ fits w
+      unfolding inRows
       coda-decides r n d =
           d ∙ ap₂ codaFits (vowels-shown (vowelsOf w) v rows-are) coda-is
           ∙ sym (whole ∙ rw (rows-some (rowsOf vowelRows (vowelsOf w)) v rows-are c, onset-says, n))

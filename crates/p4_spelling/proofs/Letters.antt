@@ -9,16 +9,16 @@ use native.Mathlib.Omega.{arith}
 use lib.Dec.{T, ltb, leb, eqb, eqb→eq}
 use lib.ListN.{getD}
 use borrow.Author.Tests.{ltb-false, leb-true}
-use Rattle.p0_choice.specs.Choice.{pick, among, each, count, same}
+use Rattle.p0_choice.specs.Choice.{pick, among, each, from, same}
 use Rattle.p0_choice.specs.Text.{word, words, wordsFrom}
 use Rattle.p0_choice.proofs.Tables.{each-among, same-true, among-left, among-right, among-map, among-count}
-use Rattle.p1_letters.specs.Alphabet.{lower, isAsciiCapital, smallBy32, smallBy1, smallHigh, smallNext, isSmall, isCapital, inAlphabet, allLetters}
+use Rattle.p1_letters.specs.Alphabet.{lower, isAsciiCapital, smallBy32, smallBy1, smallHigh, smallNext, isSmall, isCapital, inAlphabet}
+use Rattle.p1_letters.specs.Alphabet.{allLetters}
 use Rattle.p1_letters.specs.Tones.{toneOff, offIn, toneRows}
 use Rattle.p4_rows.specs.Rows.{Word, onsetRows, vowelRows, codaRows}
 use Rattle.p4_rows.specs.Lookup.{inList}
 use Rattle.p4_rows.proofs.Words.{each-in}
-use Rattle.p4_rows.proofs.Listed.{parts}
-use Rattle.p4_rows.proofs.Listed.{joined as joinedRows}
+use Rattle.p4_rows.proofs.InRows.{parts, rowWords as joinedRows}
 use Rattle.p4_spelling.specs.Cut.{onsetOf, vowelsOf, codaOf}
 use Rattle.p4_spelling.specs.Verdict.{hasForeign, fits, lowered, toneless, verdict}
 use Rattle.p4_spelling.proofs.Parts.{Parts, parts-join, fits-parts}
@@ -33,7 +33,7 @@ joined (r ∷ rs) = r ++ joined rs
 
 -- the letters that lower case changes, and those in whose rows tones go on and off
 unfoldable pub touched : List (List ℕ)
-touched = count 26 65 ∷ map (λ (y : ℕ). y - 32) smallBy32 ∷ map (λ (y : ℕ). y - 1) smallBy1 ∷ count 89 0x1ea0 ∷ toneRows
+touched = from 26 65 ∷ map (λ (y : ℕ). y - 32) smallBy32 ∷ map (λ (y : ℕ). y - 1) smallBy1 ∷ from 89 0x1ea0 ∷ toneRows
 
 among-joined : (x : ℕ) (rs : List (List ℕ)) (k : ℕ) → among x (getD rs k []) ≡ true → among x (joined rs) ≡ true
 unfolding joined
@@ -48,21 +48,21 @@ among-later x r rs e = among-right x r (joined rs) e
 
 -- the letters that the tests of `lower` find are touched
 module _ (x : ℕ) where
-  capital-touched : isAsciiCapital x ≡ true → among x (count 26 65) ≡ true
+  capital-touched : isAsciiCapital x ≡ true → among x (from 26 65) ≡ true
   unfolding isAsciiCapital
   capital-touched e = go (ltb x 65) refl (leb x 90) refl e
     where
-      go : (b : Bool) → ltb x 65 ≡ b → (c : Bool) → leb x 90 ≡ c → pick b false c ≡ true → among x (count 26 65) ≡ true
+      go : (b : Bool) → ltb x 65 ≡ b → (c : Bool) → leb x 90 ≡ c → pick b false c ≡ true → among x (from 26 65) ≡ true
       go true p c q h = let z : _≡_ {A = ℕ} 0 1 = cc in absurd (omega arith)
       go false p true q h = among-count 26 65 x (ltb-false x 65 p) (omega (arith, leb-true x 90 q))
       go false p false q h = let z : _≡_ {A = ℕ} 0 1 = cc in absurd (omega arith)
 
-  high-touched : smallHigh (x + 1) ≡ true → among x (count 89 0x1ea0) ≡ true
+  high-touched : smallHigh (x + 1) ≡ true → among x (from 89 0x1ea0) ≡ true
   unfolding smallHigh
   high-touched e = go (ltb (x + 1) 0x1ea1) refl (ltb 0x1ef9 (x + 1)) refl e
     where
       go : (b : Bool) → ltb (x + 1) 0x1ea1 ≡ b → (c : Bool) → ltb 0x1ef9 (x + 1) ≡ c
-          → pick b false (pick c false (eqb ((x + 1) % 2) 1)) ≡ true → among x (count 89 0x1ea0) ≡ true
+          → pick b false (pick c false (eqb ((x + 1) % 2) 1)) ≡ true → among x (from 89 0x1ea0) ≡ true
       go true p c q h = let z : _≡_ {A = ℕ} 0 1 = cc in absurd (omega arith)
       go false p true q h = let z : _≡_ {A = ℕ} 0 1 = cc in absurd (omega arith)
       go false p false q h = among-count 89 0x1ea0 x (omega (arith, ltb-false (x + 1) 0x1ea1 p)) (omega (arith, ltb-false 0x1ef9 (x + 1) q))
@@ -75,8 +75,10 @@ module _ (x : ℕ) where
   lower-or =
       go (isAsciiCapital x) refl (among (x + 32) smallBy32) refl (among (x + 1) smallBy1) refl (smallHigh (x + 1)) refl
     where
-      go : (a : Bool) → isAsciiCapital x ≡ a → (b : Bool) → among (x + 32) smallBy32 ≡ b → (c : Bool) → among (x + 1) smallBy1 ≡ c → (d : Bool)
-          → smallHigh (x + 1) ≡ d → (pick a (x + 32) (pick b (x + 32) (pick (pick c true d) (x + 1) x)) ≡ x) ⊎ (among x (joined touched) ≡ true)
+      go : (a : Bool) → isAsciiCapital x ≡ a → (b : Bool) → among (x + 32) smallBy32 ≡ b → (c : Bool) → among (x + 1) smallBy1 ≡ c
+          → (d : Bool)
+          → smallHigh (x + 1) ≡ d → (pick a (x + 32) (pick b (x + 32) (pick (pick c true d) (x + 1) x)) ≡ x)
+          ⊎ (among x (joined touched) ≡ true)
       go true p b q c r d s = inr (among-joined x touched 0 (capital-touched p))
       go false p true q c r d s = inr (among-joined x touched 1 (less 32 smallBy32 q))
       go false p false q true r d s = inr (among-joined x touched 2 (less 1 smallBy1 r))
@@ -114,12 +116,12 @@ stays-or x = go (lower-or x) (off-or x toneRows)
     go (inl h) (inr k) = inr (rows-touched x k)
 
 -- what holds of a letter that stays, and of the touched by a test, holds of every letter
-pub every-letter : (p : ℕ → Bool) → ((x : ℕ) → Stays x → p x ≡ true) → T (each p (joined touched)) → (x : ℕ) → p x ≡ true
-every-letter p f t x = ⊎-elim (λ s. f x s) (λ e. each-among p (joined touched) t x e) (stays-or x)
+pub each-code-point : (p : ℕ → Bool) → ((x : ℕ) → Stays x → p x ≡ true) → T (each p (joined touched)) → (x : ℕ) → p x ≡ true
+each-code-point p f t x = ⊎-elim (λ s. f x s) (λ e. each-among p (joined touched) t x e) (stays-or x)
 
-pub letter-plain : (x : ℕ) → Stays x → plainLetter x ≡ x
+pub plain-stays : (x : ℕ) → Stays x → plainLetter x ≡ x
 unfolding plainLetter
-letter-plain x s = ap toneOff (s .low) ∙ s .off
+plain-stays x s = ap toneOff (s .low) ∙ s .off
 
 alike : (b c : Bool) → b ≡ c → same b c ≡ true
 alike true c e = sym e
@@ -131,10 +133,11 @@ foreign-letter x = same (among (plainLetter x) (word "fjwz")) (among (lower x) (
 
 letter-foreign : (x : ℕ) → among (plainLetter x) (word "fjwz") ≡ among (lower x) (word "fjwz")
 unfolding foreign-letter plainLetter touched joined word lower isAsciiCapital smallBy32 smallBy1 smallHigh smallNext toneOff offIn toneRows
-letter-foreign x = same-true (among (plainLetter x) (word "fjwz")) (among (lower x) (word "fjwz")) (every-letter foreign-letter kept tt x)
+letter-foreign x = same-true (among (plainLetter x) (word "fjwz")) (among (lower x) (word "fjwz"))
+    (each-code-point foreign-letter kept tt x)
   where
     kept : (y : ℕ) → Stays y → foreign-letter y ≡ true
-    kept y s = alike _ _ (ap (λ (z : ℕ). among z (word "fjwz")) (letter-plain y s ∙ sym (s .low)))
+    kept y s = alike _ _ (ap (λ (z : ℕ). among z (word "fjwz")) (plain-stays y s ∙ sym (s .low)))
 
 pub foreign-kept : (w : Word) → hasForeign (toneless (lowered w)) ≡ hasForeign (lowered w)
 unfolding lowered toneless plainLetter hasForeign
@@ -147,7 +150,8 @@ unfolding hasForeign
 join-foreign [] w e f = f
 join-foreign (x ∷ u) w e f = go (among x (word "fjwz")) e (λ q. join-foreign u w q f)
   where
-    go : (b : Bool) → pick b true (hasForeign u) ≡ false → (hasForeign u ≡ false → hasForeign (u ++ w) ≡ false) → pick b true (hasForeign (u ++ w)) ≡ false
+    go : (b : Bool) → pick b true (hasForeign u) ≡ false → (hasForeign u ≡ false → hasForeign (u ++ w) ≡ false)
+        → pick b true (hasForeign (u ++ w)) ≡ false
     go true q g = q
     go false q g = g q
 
@@ -190,9 +194,11 @@ fits-foreign u t n =
     let p : Parts u = fits-parts u t in
     let j : onsetOf u ++ (vowelsOf u ++ codaOf u) ≡ u = parts-join u in
     let o : hasForeign (onsetOf u) ≡ false =
-    starts (onsetOf u) (vowelsOf u ++ codaOf u) 0x7a (onset-foreign (onsetOf u) (p .onset)) (λ (e : getD (onsetOf u ++ (vowelsOf u ++ codaOf u)) 0 0 ≡ 0x7a). n (ap (λ (v : Word). getD v 0 0) (sym j) ∙ e)) in
+    starts (onsetOf u) (vowelsOf u ++ codaOf u) 0x7a (onset-foreign (onsetOf u) (p .onset))
+    (λ (e : getD (onsetOf u ++ (vowelsOf u ++ codaOf u)) 0 0 ≡ 0x7a). n (ap (λ (v : Word). getD v 0 0) (sym j) ∙ e)) in
     ap hasForeign (sym j)
-    ∙ join-foreign (onsetOf u) (vowelsOf u ++ codaOf u) o (join-foreign (vowelsOf u) (codaOf u) (vowels-foreign (vowelsOf u) (p .vowels)) (coda-foreign (codaOf u) (p .coda)))
+    ∙ join-foreign (onsetOf u) (vowelsOf u ++ codaOf u) o
+    (join-foreign (vowelsOf u) (codaOf u) (vowels-foreign (vowelsOf u) (p .vowels)) (coda-foreign (codaOf u) (p .coda)))
 
 pub first-foreign : (u : Word) → getD u 0 0 ≡ 0x7a → hasForeign u ≡ true
 unfolding hasForeign word
@@ -204,11 +210,12 @@ stays-letter : ℕ → Bool
 stays-letter x = same (inAlphabet (plainLetter x)) (inAlphabet x)
 
 letter-in : (x : ℕ) → inAlphabet (plainLetter x) ≡ inAlphabet x
-unfolding stays-letter plainLetter touched joined word lower isAsciiCapital smallBy32 smallBy1 smallHigh smallNext isSmall isCapital inAlphabet toneOff offIn toneRows
-letter-in x = same-true (inAlphabet (plainLetter x)) (inAlphabet x) (every-letter stays-letter kept tt x)
+unfolding stays-letter plainLetter touched joined word lower isAsciiCapital smallBy32 smallBy1 smallHigh smallNext isSmall isCapital
+    inAlphabet toneOff offIn toneRows
+letter-in x = same-true (inAlphabet (plainLetter x)) (inAlphabet x) (each-code-point stays-letter kept tt x)
   where
     kept : (y : ℕ) → Stays y → stays-letter y ≡ true
-    kept y s = alike _ _ (ap inAlphabet (letter-plain y s))
+    kept y s = alike _ _ (ap inAlphabet (plain-stays y s))
 
 form-letters : (w : Word) → allLetters (toneless (lowered w)) ≡ allLetters w
 unfolding toneless lowered plainLetter
@@ -219,21 +226,25 @@ join-letters : (u w : Word) → T (allLetters u) → T (allLetters w) → T (all
 join-letters [] w t h = h
 join-letters (x ∷ u) w t h = go (inAlphabet x) t (λ q. join-letters u w q h)
   where
-    go : (b : Bool) → T (pick b (allLetters u) false) → (T (allLetters u) → T (allLetters (u ++ w))) → T (pick b (allLetters (u ++ w)) false)
+    go : (b : Bool) → T (pick b (allLetters u) false) → (T (allLetters u) → T (allLetters (u ++ w)))
+        → T (pick b (allLetters (u ++ w)) false)
     go true q f = f q
     go false q f = q
 
 module _ (u : Word) where
   onset-letters : T (inList u (parts onsetRows)) → T (allLetters u)
-  unfolding parts joinedRows onsetRows word words wordsFrom inAlphabet isSmall isCapital isAsciiCapital smallBy32 smallBy1 smallHigh smallNext
+  unfolding parts joinedRows onsetRows word words wordsFrom inAlphabet isSmall isCapital isAsciiCapital smallBy32 smallBy1 smallHigh
+      smallNext
   onset-letters t = each-in allLetters (parts onsetRows) tt u t
 
   vowels-letters : T (inList u (parts vowelRows)) → T (allLetters u)
-  unfolding parts joinedRows vowelRows word words wordsFrom inAlphabet isSmall isCapital isAsciiCapital smallBy32 smallBy1 smallHigh smallNext
+  unfolding parts joinedRows vowelRows word words wordsFrom inAlphabet isSmall isCapital isAsciiCapital smallBy32 smallBy1 smallHigh
+      smallNext
   vowels-letters t = each-in allLetters (parts vowelRows) tt u t
 
   coda-letters : T (inList u (parts codaRows)) → T (allLetters u)
-  unfolding parts joinedRows codaRows word words wordsFrom inAlphabet isSmall isCapital isAsciiCapital smallBy32 smallBy1 smallHigh smallNext
+  unfolding parts joinedRows codaRows word words wordsFrom inAlphabet isSmall isCapital isAsciiCapital smallBy32 smallBy1 smallHigh
+      smallNext
   coda-letters t = each-in allLetters (parts codaRows) tt u t
 
 fits-letters : (u : Word) → T (fits u) → T (allLetters u)
@@ -249,7 +260,8 @@ is-true false t = absurd t
 
 pub accepted-letters : (w : Word) → verdict w ≡ true → allLetters w ≡ true
 unfolding verdict
-accepted-letters w e = sym (form-letters w) ∙ is-true (allLetters (toneless (lowered w))) (fits-letters (toneless (lowered w)) (go (hasForeign (lowered w)) e))
+accepted-letters w e = sym (form-letters w)
+    ∙ is-true (allLetters (toneless (lowered w))) (fits-letters (toneless (lowered w)) (go (hasForeign (lowered w)) e))
   where
     go : (b : Bool) → pick b false (fits (toneless (lowered w))) ≡ true → T (fits (toneless (lowered w)))
     go true q = let z : _≡_ {A = ℕ} 0 1 = cc in absurd (omega arith)

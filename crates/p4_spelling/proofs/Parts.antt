@@ -1,4 +1,4 @@
--- The three parts of a word join to it, and those of a word that fits are parts of the rows; so it has at most 8 letters.
+-- The three parts of a word join to it, and those of a word that fits are parts of the rows; so it is no longer than the longest.
 use Prim.Native.Nat.{ℕ, suc, _≤_}
 use mathlib.Core.Path.{_≡_, refl, sym, ap, _∙_, subst}
 use mathlib.Core.Bool.{Bool, true, false}
@@ -11,11 +11,11 @@ use Rattle.p0_choice.specs.Choice.{pick}
 use Rattle.p0_choice.specs.Text.{word, words, wordsFrom}
 use Rattle.p1_letters.specs.Vowels.{isSpellingVowel}
 use Rattle.p4_rows.specs.Rows.{Word, onsetRows, vowelRows, codaRows}
-use Rattle.p4_rows.specs.Lookup.{inList, rowsOf, listed, isEmpty}
+use Rattle.p4_rows.specs.Lookup.{inList, rowsOf, inRows, isEmpty}
 use Rattle.p4_rows.proofs.Words.{both-of, each-in}
-use Rattle.p4_rows.proofs.Listed.{joined, parts, listed-in, empty-in}
+use Rattle.p4_rows.proofs.InRows.{rowWords, parts, listed-in, empty-in}
 use Rattle.p4_spelling.specs.Cut.{beforeVowel, vowelRun, isGlue, startsGlued, onsetEnd, vowelsEnd, onsetOf, vowelsOf, codaOf}
-use Rattle.p4_spelling.specs.Verdict.{listedIfAny, onsetFits, codaFits, partsFit, fits}
+use Rattle.p4_spelling.specs.Verdict.{inRowsIfAny, onsetFits, codaFits, partsFit, fits, longestLength}
 
 pub coda-after : (w : Word) → codaOf w ≡ drop (vowelRun (drop (onsetEnd w) w)) (drop (onsetEnd w) w)
 unfolding codaOf vowelsEnd
@@ -80,12 +80,12 @@ is-empty : (u : Word) → T (isEmpty u) → u ≡ []
 is-empty [] t = refl
 is-empty (x ∷ u) t = absurd t
 
-any-in : (rows : List (List Word)) (u : Word) → T (listedIfAny rows u) → T (inList u (parts rows))
-unfolding listedIfAny
+any-in : (rows : List (List Word)) (u : Word) → T (inRowsIfAny rows u) → T (inList u (parts rows))
+unfolding inRowsIfAny
 any-in rows [] t = empty-in rows
 any-in rows (x ∷ u) t = listed-in rows (x ∷ u) t
 
-none-in : (w : Word) → T (isEmpty (vowelsOf w)) → T (listed onsetRows (onsetOf w)) → Parts w
+none-in : (w : Word) → T (isEmpty (vowelsOf w)) → T (inRows onsetRows (onsetOf w)) → Parts w
 none-in w e t = record {
   onset = listed-in onsetRows (onsetOf w) t;
   vowels = rw (is-empty (vowelsOf w) e) (empty-in vowelRows);
@@ -99,20 +99,22 @@ some-in w t =
     let v : Word = vowelsOf w in
     let c : Word = codaOf w in
     let F : Bool = pick (onsetFits o (rowsOf vowelRows v)) (codaFits (rowsOf vowelRows v) c) false in
-    let p : T (listedIfAny onsetRows o) × T (pick (listed vowelRows v) (pick (listedIfAny codaRows c) F false) false) =
-    both-of (listedIfAny onsetRows o) (pick (listed vowelRows v) (pick (listedIfAny codaRows c) F false) false) t in
-    let q : T (listed vowelRows v) × T (pick (listedIfAny codaRows c) F false) = both-of (listed vowelRows v) (pick (listedIfAny codaRows c) F false) (p .1) in
+    let p : T (inRowsIfAny onsetRows o) × T (pick (inRows vowelRows v) (pick (inRowsIfAny codaRows c) F false) false) =
+    both-of (inRowsIfAny onsetRows o) (pick (inRows vowelRows v) (pick (inRowsIfAny codaRows c) F false) false) t in
+    let q : T (inRows vowelRows v) × T (pick (inRowsIfAny codaRows c) F false) =
+    both-of (inRows vowelRows v) (pick (inRowsIfAny codaRows c) F false) (p .1) in
     record {
       onset = any-in onsetRows o (p .0);
       vowels = listed-in vowelRows v (q .0);
-      coda = any-in codaRows c (both-of (listedIfAny codaRows c) F (q .1) .0);
+      coda = any-in codaRows c (both-of (inRowsIfAny codaRows c) F (q .1) .0);
     }
 
 pub fits-parts : (w : Word) → T (fits w) → Parts w
 unfolding fits
 fits-parts w t = go (isEmpty (vowelsOf w)) refl t
   where
-    go : (b : Bool) → isEmpty (vowelsOf w) ≡ b → T (pick b (listed onsetRows (onsetOf w)) (partsFit (onsetOf w) (vowelsOf w) (codaOf w))) → Parts w
+    go : (b : Bool) → isEmpty (vowelsOf w) ≡ b → T (pick b (inRows onsetRows (onsetOf w)) (partsFit (onsetOf w) (vowelsOf w) (codaOf w)))
+        → Parts w
     go true e q = none-in w (rw e tt) q
     go false e q = some-in w q
 
@@ -121,19 +123,19 @@ atMost n u = leb (length u) n
 
 module _ (u : Word) where
   onset-short : T (inList u (parts onsetRows)) → length u ≤ 3
-  unfolding atMost parts joined onsetRows word words wordsFrom
+  unfolding atMost parts rowWords onsetRows word words wordsFrom
   onset-short t = leb→le (length u) 3 (each-in (atMost 3) (parts onsetRows) tt u t)
 
   vowels-short : T (inList u (parts vowelRows)) → length u ≤ 3
-  unfolding atMost parts joined vowelRows word words wordsFrom
+  unfolding atMost parts rowWords vowelRows word words wordsFrom
   vowels-short t = leb→le (length u) 3 (each-in (atMost 3) (parts vowelRows) tt u t)
 
   coda-short : T (inList u (parts codaRows)) → length u ≤ 2
-  unfolding atMost parts joined codaRows word words wordsFrom
+  unfolding atMost parts rowWords codaRows word words wordsFrom
   coda-short t = leb→le (length u) 2 (each-in (atMost 2) (parts codaRows) tt u t)
 
 -- "The longest has 8 letters."
-pub fits-short : (w : Word) → T (fits w) → length w ≤ 8
+pub fits-short : (w : Word) → T (fits w) → length w ≤ longestLength
 fits-short w t =
     let p : Parts w = fits-parts w t in
     omega (

@@ -26,7 +26,8 @@ module _ (w : Word) (s i : ℕ) (v : Bool) where
   pub before-found : s ≡ i + beforeVowel (drop i w) → i < length w → v ≡ isSpellingVowel (getD w i 0) → v ≡ true → i ≡ s
   before-found e l q t = omega (arith, rw (sym q ∙ t) at (before-turn l))
 
-  pub before-on : s ≡ i + beforeVowel (drop i w) → i < length w → v ≡ isSpellingVowel (getD w i 0) → v ≡ false → s ≡ i + 1 + beforeVowel (drop (i + 1) w)
+  pub before-on : s ≡ i + beforeVowel (drop i w) → i < length w → v ≡ isSpellingVowel (getD w i 0) → v ≡ false
+      → s ≡ i + 1 + beforeVowel (drop (i + 1) w)
   before-on e l q t = rw (add-one i) (omega (arith, rw (sym q ∙ t) at (before-turn l)))
 
   run-turn : i < length w → vowelRun (drop i w) ≡ pick (isSpellingVowel (getD w i 0)) (suc (vowelRun (drop (suc i) w))) 0
@@ -36,7 +37,8 @@ module _ (w : Word) (s i : ℕ) (v : Bool) where
   pub run-found : s ≡ i + vowelRun (drop i w) → i < length w → v ≡ isSpellingVowel (getD w i 0) → v ≡ false → i ≡ s
   run-found e l q t = omega (arith, rw (sym q ∙ t) at (run-turn l))
 
-  pub run-on : s ≡ i + vowelRun (drop i w) → i < length w → v ≡ isSpellingVowel (getD w i 0) → v ≡ true → s ≡ i + 1 + vowelRun (drop (i + 1) w)
+  pub run-on : s ≡ i + vowelRun (drop i w) → i < length w → v ≡ isSpellingVowel (getD w i 0) → v ≡ true
+      → s ≡ i + 1 + vowelRun (drop (i + 1) w)
   run-on e l q t = rw (add-one i) (omega (arith, rw (sym q ∙ t) at (run-turn l)))
 
 module _ (w : Word) (s i : ℕ) where
@@ -50,7 +52,8 @@ module _ (w : Word) (s i : ℕ) where
 
 -- ---- the glued starts
 module _ (x y : ℕ) where
-  glue-is : isGlue x y ≡ pick (pick (eqb x 0x71) (pick (eqb y 0x75) true false) false) true (pick (pick (eqb x 0x67) (pick (eqb y 0x69) true false) false) true false)
+  glue-is : isGlue x y ≡ pick (pick (eqb x 0x71) (pick (eqb y 0x75) true false) false) true
+      (pick (pick (eqb x 0x67) (pick (eqb y 0x69) true false) false) true false)
   unfolding isGlue inList sameWord word words wordsFrom
   glue-is = refl
 
@@ -96,14 +99,17 @@ module _ (w : Word) where
   pub end-short : (r : ℕ) → length w < 3 → r ≡ beforeVowel w → r ≡ onsetEnd w
   end-short r l h = end-plain r (short-unglued l) h
 
-  pub end-unglued : (r : ℕ) (g : Bool) → 3 ≤ length w → g ≡ isGlue (getD w 0 0) (getD w 1 0) → g ≡ false → r ≡ beforeVowel w → r ≡ onsetEnd w
+  pub end-unglued : (r : ℕ) (g : Bool) → 3 ≤ length w → g ≡ isGlue (getD w 0 0) (getD w 1 0) → g ≡ false → r ≡ beforeVowel w
+      → r ≡ onsetEnd w
   end-unglued r g l e f h = end-plain r (glued-is l ∙ rw (sym e ∙ f)) h
 
-  pub end-no-vowel : (r : ℕ) (g v : Bool) → 3 ≤ length w → g ≡ isGlue (getD w 0 0) (getD w 1 0) → g ≡ true → v ≡ isSpellingVowel (getD w 2 0) → v ≡ false
+  pub end-no-vowel : (r : ℕ) (g v : Bool) → 3 ≤ length w → g ≡ isGlue (getD w 0 0) (getD w 1 0) → g ≡ true
+      → v ≡ isSpellingVowel (getD w 2 0) → v ≡ false
       → r ≡ beforeVowel w → r ≡ onsetEnd w
   end-no-vowel r g v l e f p q h = end-plain r (glued-is l ∙ rw (sym e ∙ f, sym p ∙ q)) h
 
-  pub end-glued : (g v : Bool) → 3 ≤ length w → g ≡ isGlue (getD w 0 0) (getD w 1 0) → g ≡ true → v ≡ isSpellingVowel (getD w 2 0) → v ≡ true
+  pub end-glued : (g v : Bool) → 3 ≤ length w → g ≡ isGlue (getD w 0 0) (getD w 1 0) → g ≡ true → v ≡ isSpellingVowel (getD w 2 0)
+      → v ≡ true
       → 2 ≡ onsetEnd w
   unfolding onsetEnd
   end-glued g v l e f p q = rw (glued-is l) (rw (sym e ∙ f, sym p ∙ q))
@@ -158,11 +164,13 @@ module _ (w : Word) where
   from-start n = let e : n - 0 ≡ n = omega arith in rw e
 
   -- the run of the rest, lent as a part
-  pub places-are : (a b : ℕ) → a ≡ onsetEnd w → b ≡ vowelRun (take (length w - a) (drop a w)) → record { onset = a; vowels = a + b } ≡ placesOf w
+  pub places-are : (a b : ℕ) → a ≡ onsetEnd w → b ≡ vowelRun (take (length w - a) (drop a w))
+      → record { onset = a; vowels = a + b } ≡ placesOf w
   unfolding placesOf vowelsEnd
   places-are a b ea eb =
       rw (eb ∙ ap vowelRun (whole-rest a (end-within a ea)), ea)
 
   pub places-within : (a b : ℕ) → a ≡ onsetEnd w → b ≡ vowelRun (take (length w - a) (drop a w)) → a + b ≤ length w
   unfolding vowelsEnd
-  places-within a b ea eb = omega (arith, eb ∙ ap vowelRun (whole-rest a (end-within a ea)), ap (λ (n : ℕ). vowelRun (drop n w)) ea, ea, vowels-le w)
+  places-within a b ea eb = omega
+      (arith, eb ∙ ap vowelRun (whole-rest a (end-within a ea)), ap (λ (n : ℕ). vowelRun (drop n w)) ea, ea, vowels-le w)

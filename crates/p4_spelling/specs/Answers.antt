@@ -4,12 +4,13 @@ use mathlib.Core.List.{[]}
 use lib.Dec.{ltb}
 use lib.ListN.{length, take, drop}
 use Rattle.p0_choice.specs.Choice.{pick}
+use Rattle.p0_refusals.specs.Limits.{letterLimit}
 use Rattle.p0_refusals.specs.Refusals as Refusals
 use Rattle.p0_refusals.specs.declared.Refusal.{Refusal}
 use Rattle.p0_refusals.specs.declared.Refusal.the-variants.{Foreign, Long}
 use Rattle.p1_letters.specs.Alphabet.{allLetters}
 use Rattle.p4_rows.specs.Rows.{Word}
-use Rattle.p4_spelling.specs.declared.Places.{Places}
+use Rattle.p4_spelling.specs.declared.CutPlaces.{CutPlaces}
 use Rattle.p4_spelling.specs.declared.Cut.{Cut}
 use Rattle.p4_spelling.specs.declared.Cut.the-variants as Cuts
 use Rattle.p4_spelling.specs.declared.Verdict.{Verdict}
@@ -29,21 +30,21 @@ verdictNumber (Verdicts.Refused r) = Refusals.numberOf r
 
 -- "Words .. : at most 64": over the limit 6, a code point outside the alphabet 1
 unfoldable pub permitted : {A : Type 0} → Word → (Refusal → A) → A → A
-permitted w refuse answer = pick (ltb 64 (length w)) (refuse Long) (pick (allLetters w) answer (refuse Foreign))
+permitted w refuse answer = pick (ltb letterLimit (length w)) (refuse Long) (pick (allLetters w) answer (refuse Foreign))
 
 -- where onset and vowels end
-unfoldable pub placesOf : Word → Places
+unfoldable pub placesOf : Word → CutPlaces
 placesOf w = record { onset = onsetEnd w; vowels = vowelsEnd w }
 
 -- "The three answers are parts of the lent word": between the places, empty where those do not stand in it
-unfoldable pub onsetPart : Word → Places → Word
+unfoldable pub onsetPart : Word → CutPlaces → Word
 onsetPart w p = pick (ltb (length w) (p .onset)) [] (take (p .onset) w)
 
-unfoldable pub vowelsPart : Word → Places → Word
+unfoldable pub vowelsPart : Word → CutPlaces → Word
 vowelsPart w p =
     pick (ltb (length w) (p .vowels)) [] (pick (ltb (p .vowels) (p .onset)) [] (take (p .vowels - p .onset) (drop (p .onset) w)))
 
-unfoldable pub codaPart : Word → Places → Word
+unfoldable pub codaPart : Word → CutPlaces → Word
 codaPart w p = pick (ltb (length w) (p .vowels)) [] (drop (p .vowels) w)
 
 unfoldable pub cutAnswer : Word → Cut

@@ -7,7 +7,7 @@ use Rattle.p0_choice.specs.Text.{word}
 use Rattle.p1_letters.specs.Alphabet.{lower}
 use Rattle.p1_letters.specs.Tones.{toneOff}
 use Rattle.p4_rows.specs.Rows.{Word, onsetRows, vowelRows, codaRows, onsetToVowels, vowelsToCoda}
-use Rattle.p4_rows.specs.Lookup.{rowsOf, listed, isEmpty, goTogether}
+use Rattle.p4_rows.specs.Lookup.{rowsOf, inRows, isEmpty, goTogether}
 use Rattle.p4_spelling.specs.Cut.{onsetOf, vowelsOf, codaOf}
 
 -- "f j w z"
@@ -16,8 +16,8 @@ hasForeign [] = false
 hasForeign (x ∷ xs) = pick (among x (word "fjwz")) true (hasForeign xs)
 
 -- "each part present must be listed"
-unfoldable pub listedIfAny : List (List Word) → Word → Bool
-listedIfAny rows part = pick (isEmpty part) true (listed rows part)
+unfoldable pub inRowsIfAny : List (List Word) → Word → Bool
+inRowsIfAny rows part = pick (isEmpty part) true (inRows rows part)
 
 -- the onset, with the rows that the vowels stand in: "The search over onset rows and vowel rows ends at the first pair
 -- allowed." "No onset .. : that search passes."
@@ -31,9 +31,9 @@ codaFits rows coda = pick (isEmpty coda) true (goTogether vowelsToCoda rows (row
 -- "Otherwise each part present must be listed, and two matrices of row numbers say which rows go together."
 unfoldable pub partsFit : Word → Word → Word → Bool
 partsFit onset vowels coda =
-    pick (listedIfAny onsetRows onset)
-    (pick (listed vowelRows vowels)
-    (pick (listedIfAny codaRows coda)
+    pick (inRowsIfAny onsetRows onset)
+    (pick (inRows vowelRows vowels)
+    (pick (inRowsIfAny codaRows coda)
     (pick (onsetFits onset (rowsOf vowelRows vowels)) (codaFits (rowsOf vowelRows vowels) coda) false)
     false)
     false)
@@ -42,7 +42,7 @@ partsFit onset vowels coda =
 -- "No vowels: yes exactly if the onset is listed. Otherwise .."
 unfoldable pub fits : Word → Bool
 fits w =
-    pick (isEmpty (vowelsOf w)) (listed onsetRows (onsetOf w)) (partsFit (onsetOf w) (vowelsOf w) (codaOf w))
+    pick (isEmpty (vowelsOf w)) (inRows onsetRows (onsetOf w)) (partsFit (onsetOf w) (vowelsOf w) (codaOf w))
 
 unfoldable pub lowered : Word → Word
 lowered w = map lower w
@@ -53,3 +53,7 @@ toneless w = map toneOff w
 -- "Verdict: lower-case; refuse f j w z; take tones off; cut."
 unfoldable pub verdict : Word → Bool
 verdict w = pick (hasForeign (lowered w)) false (fits (toneless (lowered w)))
+
+-- "The longest has 8 letters."
+abbrev pub longestLength : ℕ
+longestLength = 8

@@ -1,5 +1,6 @@
 // Cut and verdict (document 01, port order 4: `spelling.rs`). A word is cut into onset, vowels and coda, and judged by
 // the rows of `p4_rows`.
+use p0_refusals::LETTERS;
 use p0_refusals::Refusal;
 use p1_letters as letters;
 use p4_rows as rows;
@@ -12,20 +13,23 @@ ghost use lib.Dec.{eqb};
 ghost use Rattle.p0_choice.specs.Choice.{pick};
 ghost use Rattle.p4_rows.specs.Rows.{onsetToVowels};
 ghost use Rattle.p4_rows.specs.Lookup.{goTogether};
-ghost use Rattle.p4_rows.specs.Keys.{shown};
+ghost use Rattle.p4_rows.specs.Mirror.{rowNumbers};
 ghost use Rattle.p4_spelling.specs.Cut.{beforeVowel, vowelRun, isGlue, onsetEnd};
 ghost use Rattle.p4_spelling.specs.Verdict.{codaFits, fits as fitting, verdict};
 ghost use Rattle.p4_spelling.specs.Answers.{placesOf, onsetPart, vowelsPart, codaPart, cutAnswer, verdictAnswer};
 
+// The letters of the longest accepted word; `longestLength` says the same.
+pub const LONGEST: usize = 8;
+
 // Where a word is cut: its onset ends before `onset`, its vowels end before `vowels`.
-pub struct Places {
+pub struct CutPlaces {
     pub onset: usize,
     pub vowels: usize,
 }
 
 // What the cut answers.
 pub enum Cut {
-    At(Places),
+    At(CutPlaces),
     Refused(Refusal),
 }
 
@@ -93,19 +97,19 @@ fn onset_end(word: &[u32]) -> usize
 }
 
 // The places where any word is cut.
-pub fn cut_at(word: &[u32]) -> Places
+pub fn cut_at(word: &[u32]) -> CutPlaces
     ensures { λ r. ⌜ (r ≡ placesOf (now (word .entry))) × (r .onset ≤ r .vowels) × (r .vowels ≤ length (now (word .entry))) ⌝ }
 {
     let onset = onset_end(word);
     let run = vowel_run(&word[onset..]);
-    Places {
+    CutPlaces {
         onset,
         vowels: onset + run,
     }
 }
 
 // The parts of a word between such places; empty where they do not stand in it.
-pub fn onset_part(word: &[u32], at: Places) -> &[u32]
+pub fn onset_part(word: &[u32], at: CutPlaces) -> &[u32]
     ensures { λ r. ⌜ now r ≡ onsetPart (now (word .entry)) at ⌝ }
 {
     let end = at.onset;
@@ -115,7 +119,7 @@ pub fn onset_part(word: &[u32], at: Places) -> &[u32]
     &word[0..end]
 }
 
-pub fn vowels_part(word: &[u32], at: Places) -> &[u32]
+pub fn vowels_part(word: &[u32], at: CutPlaces) -> &[u32]
     ensures { λ r. ⌜ now r ≡ vowelsPart (now (word .entry)) at ⌝ }
 {
     let start = at.onset;
@@ -129,7 +133,7 @@ pub fn vowels_part(word: &[u32], at: Places) -> &[u32]
     &word[start..end]
 }
 
-pub fn coda_part(word: &[u32], at: Places) -> &[u32]
+pub fn coda_part(word: &[u32], at: CutPlaces) -> &[u32]
     ensures { λ r. ⌜ now r ≡ codaPart (now (word .entry)) at ⌝ }
 {
     let start = at.vowels;
@@ -143,7 +147,7 @@ pub fn coda_part(word: &[u32], at: Places) -> &[u32]
 pub fn partition(word: &[u32]) -> Cut
     ensures { λ r. ⌜ r ≡ cutAnswer (now (word .entry)) ⌝ }
 {
-    if 64 < word.len() {
+    if LETTERS < word.len() {
         return Cut::Refused(Refusal::Long);
     }
     if !letters::all_letters(word) {
@@ -155,7 +159,7 @@ pub fn partition(word: &[u32]) -> Cut
 // One of the onset's rows goes with one of the vowels', or the onset has no letters. An onset without rows is not
 // listed, and goes with none.
 fn onset_fits(letters: usize, onset: Rows, vowels: Rows) -> bool
-    ensures { λ r. ⌜ r ≡ pick (eqb letters 0) true (goTogether onsetToVowels (shown onset) (shown vowels)) ⌝ }
+    ensures { λ r. ⌜ r ≡ pick (eqb letters 0) true (goTogether onsetToVowels (rowNumbers onset) (rowNumbers vowels)) ⌝ }
 {
     if letters == 0 {
         return true;
@@ -165,7 +169,7 @@ fn onset_fits(letters: usize, onset: Rows, vowels: Rows) -> bool
 
 // The same of the coda, whose search is its own: another row of the vowels may answer it.
 fn coda_fits(vowels: Rows, coda: &[u32]) -> bool
-    ensures { λ r. ⌜ r ≡ codaFits (shown vowels) (now (coda .entry)) ⌝ }
+    ensures { λ r. ⌜ r ≡ codaFits (rowNumbers vowels) (now (coda .entry)) ⌝ }
 {
     if coda.len() == 0 {
         return true;
@@ -194,16 +198,16 @@ fn fits(word: &[u32]) -> bool
     coda_fits(vowels, &word[b..])
 }
 
-// Whether a word is accepted. No accepted word has over 8 letters; and of f j w z, which it may not have, no row has one
+// Whether a word is accepted. None that is longer than LONGEST is; and of f j w z, which it may not have, no row has one
 // but the onset z.
 pub fn accepts(word: &[u32]) -> bool
     ensures { λ r. ⌜ r ≡ verdict (now (word .entry)) ⌝ }
 {
     let n = word.len();
-    if 8 < n {
+    if LONGEST < n {
         return false;
     }
-    let mut plain = [0u32; 8];
+    let mut plain = [0u32; LONGEST];
     let mut i: usize = 0;
     while i < n {
         plain[i] = letters::strip_tone(letters::lower(word[i]));
@@ -219,7 +223,7 @@ pub fn accepts(word: &[u32]) -> bool
 pub fn is_valid_vietnamese_syllable(word: &[u32]) -> Verdict
     ensures { λ r. ⌜ r ≡ verdictAnswer (now (word .entry)) ⌝ }
 {
-    if 64 < word.len() {
+    if LETTERS < word.len() {
         return Verdict::Refused(Refusal::Long);
     }
     if accepts(word) {

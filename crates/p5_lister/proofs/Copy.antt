@@ -12,7 +12,8 @@ pub record Copied (s d : List ℕ) (n : ℕ) (out : List ℕ) (i : ℕ) : Type 0
   pub kept : length out ≡ length d
   pub is : out ≡ take i s ++ drop i d
 
-pub copy-more : (s d : List ℕ) (n : ℕ) (out : List ℕ) (i : ℕ) → n ≤ length s → n ≤ length d → i < n → Copied s d n out i → Copied s d n (set out i (getD s i 0)) (i + 1)
+pub copy-more : (s d : List ℕ) (n : ℕ) (out : List ℕ) (i : ℕ) → n ≤ length s → n ≤ length d → i < n → Copied s d n out i
+    → Copied s d n (set out i (getD s i 0)) (i + 1)
 copy-more s d n out i hs hd l k = record {
   within = omega arith;
   kept = length-set out i (getD s i 0) ∙ k .kept;

@@ -18,6 +18,7 @@ use Rattle.p5_trie.specs.Order.{Before}
 use Rattle.p5_trie.specs.Numbering.{Named, Follows, Last}
 use Rattle.p5_trie.proofs.Unique.{has-name, name-has, one-name, names-ascend, no-name-between}
 use Rattle.p5_listing.specs.Listed.{plain, Listed}
+use Rattle.p5_listing.specs.Counts.{wordCount}
 use Rattle.p5_listing.proofs.Numbering.{accepted-has-number, number-is-accepted}
 use Rattle.p5_listing.proofs.Counts.{counts}
 use Rattle.p5_lister.specs.Meaning.{NumberMeans, word, none, Permitted, NextMeans, long, foreign, last, next}
@@ -33,17 +34,17 @@ given n u (word r a e) = let k : r ≡ u = cc in subst (Named Listed n) k a
 given n u (none a e) = absurd (let z : _≡_ {A = ℕ} 0 1 = cc in omega arith)
 
 -- "Numbers 0 to 5,962 name them; 5,963 and up give 7."
-pub numbers-name : (n : ℕ) → n < 5963 → (u : Word) × NumberMeans Listed n (writes u)
+pub numbers-name : (n : ℕ) → n < wordCount → (u : Word) × NumberMeans Listed n (writes u)
 numbers-name n h =
     let f : ℕ → Word = counts .all .0 in
-    (f n, gives n (f n) (record { order = f; total = 5963; numbers = counts .all .1; small = h; is = refl }))
+    (f n, gives n (f n) (record { order = f; total = wordCount; numbers = counts .all .1; small = h; is = refl }))
 
-pub numbers-end : (n : ℕ) → 5963 ≤ n → NumberMeans Listed n (refuses NoWord)
-numbers-end n h = none (record { total = 5963; many = counts .all; past = h }) refl
+pub numbers-end : (n : ℕ) → wordCount ≤ n → NumberMeans Listed n (refuses NoWord)
+numbers-end n h = none (record { total = wordCount; many = counts .all; past = h }) refl
 
 -- "The lister names every lower-case toneless word that demand 2's syllable rule accepts"
 pub names-every : (u : Word) → Listed u → (n : ℕ) × NumberMeans Listed n (writes u)
-names-every u l = let r : (n : ℕ) × Named Listed n u = has-name 5963 (counts .all) u l in (r .0, gives (r .0) u (r .1))
+names-every u l = let r : (n : ℕ) × Named Listed n u = has-name wordCount (counts .all) u l in (r .0, gives (r .0) u (r .1))
 
 -- and no other
 pub names-no-other : (n : ℕ) (u : Word) → NumberMeans Listed n (writes u) → Listed u

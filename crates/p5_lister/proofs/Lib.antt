@@ -5,3 +5,4 @@ pub mod Meaning
 pub mod Answers
 pub mod Demand3
 pub mod Room
+pub mod Only

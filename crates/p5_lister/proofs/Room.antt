@@ -14,14 +14,16 @@ use Rattle.p0_refusals.proofs.Answers.{refuses-answer, writes-answer}
 use Rattle.p4_rows.specs.Rows.{Word}
 use Rattle.p5_trie.proofs.Unique.{name-has}
 use Rattle.p5_listing.specs.Listed.{Listed}
+use Rattle.p4_spelling.specs.Verdict.{longestLength}
 use Rattle.p5_listing.proofs.Counts.{counts}
 use Rattle.p5_lister.specs.Meaning.{NumberMeans, word, none, NextMeans, long, foreign, last, next}
 use Rattle.p5_lister.proofs.Answers.{Answers}
 
 module _ (u : Outcome) (o : List ℕ) (a : Answer) (g : a ≡ answer u (length o)) (e : a ≡ Refused Short) where
-  not-word : (r : Word) → Listed r → u ≡ writes r → 8 ≤ length o → ⊥
+  not-word : (r : Word) → Listed r → u ≡ writes r → longestLength ≤ length o → ⊥
   not-word r l q h =
-      let d : Done (length r) ≡ answer u (length o) = writes-answer u r q (length o) (length r) (omega (arith, counts .longest .within r l)) refl in
+      let d : Done (length r) ≡ answer u (length o) =
+      writes-answer u r q (length o) (length r) (omega (arith, counts .longest .within r l)) refl in
       let z : _≡_ {A = ℕ} 0 1 = cc in
       omega arith
 
@@ -31,7 +33,7 @@ module _ (u : Outcome) (o : List ℕ) (a : Answer) (g : a ≡ answer u (length o
       let k : x ≡ Short = cc in
       ap numberOf k
 
-module _ (o : List ℕ) (a : Answer) (out : List ℕ) (room : 8 ≤ length o) (e : a ≡ Refused Short) where
+module _ (o : List ℕ) (a : Answer) (out : List ℕ) (room : longestLength ≤ length o) (e : a ≡ Refused Short) where
   pub number-has-room : (n : ℕ) → Answers (NumberMeans Listed n) o a out → ⊥
   number-has-room n g = go (g .1)
     where

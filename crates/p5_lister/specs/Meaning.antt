@@ -3,6 +3,7 @@ use Prim.Native.Nat.{ℕ, _≤_, _<_}
 use mathlib.Core.Path.{_≡_}
 use mathlib.Core.Bool.{true, false}
 use lib.ListN.{length}
+use Rattle.p0_refusals.specs.Limits.{letterLimit}
 use Rattle.p0_refusals.specs.declared.Refusal.the-variants.{Foreign, Long, NoWord}
 use Rattle.p0_refusals.specs.Answers.{Outcome, writes, refuses}
 use Rattle.p1_letters.specs.Alphabet.{allLetters}
@@ -16,12 +17,12 @@ pub data NumberMeans (P : Word → Type 0) (n : ℕ) (u : Outcome) : Type 0 wher
 
 -- "any word of the alphabet up to 64 letters"
 abbrev pub Permitted : Word → Type 0
-Permitted w = (length w ≤ 64) × (allLetters w ≡ true)
+Permitted w = (length w ≤ letterLimit) × (allLetters w ≡ true)
 
 -- "Asked for the next listed word after any permitted word .. it refuses exactly if no listed word follows"; 6 and 1 for a
 -- word that is not permitted
 pub data NextMeans (P : Word → Type 0) (w : Word) (u : Outcome) : Type 0 where
-  long : 64 < length w → u ≡ refuses Long → NextMeans P w u
-  foreign : length w ≤ 64 → allLetters w ≡ false → u ≡ refuses Foreign → NextMeans P w u
+  long : letterLimit < length w → u ≡ refuses Long → NextMeans P w u
+  foreign : length w ≤ letterLimit → allLetters w ≡ false → u ≡ refuses Foreign → NextMeans P w u
   last : Permitted w → Last P w → u ≡ refuses NoWord → NextMeans P w u
   next : (r : Word) → Permitted w → Follows P w r → u ≡ writes r → NextMeans P w u

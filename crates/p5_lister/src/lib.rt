@@ -1,28 +1,32 @@
 // The lister (document 01, port order 5): the listed words by number, and the one that follows a word. Both go down the
-// table of shared cells of `p5_listing`, from the last cell to lower ones: cell 0 is none.
-mod cells;
+// table of shared nodes of `p5_listing`, from the last node to lower ones: node 0 is none.
+mod nodes;
 
 use p0_refusals::Answer;
+use p0_refusals::LETTERS;
 use p0_refusals::Refusal;
 use p1_letters as letters;
+use p4_spelling::LONGEST;
 ghost use mathlib.Core.Path.{_≡_};
 ghost use mathlib.Core.List.{_++_};
 ghost use Prim.Native.Nat.{_≤_, _<_};
 ghost use lib.ListN.{length, take, drop};
-ghost use Rattle.p5_trie.specs.Trie.{nth, upTo};
+ghost use Rattle.p5_trie.specs.Mirror.{nth, upTo};
 ghost use Rattle.p5_trie.specs.Numbering.{Many};
 ghost use Rattle.p5_listing.specs.Listed.{Listed};
-ghost use Rattle.p5_listing.specs.Cells.{listing};
+ghost use Rattle.p5_listing.specs.Mirror.{listing};
+ghost use Rattle.p4_spelling.specs.Verdict.{longestLength};
+ghost use Rattle.p5_listing.specs.Counts.{wordCount};
 ghost use Rattle.p0_refusals.specs.Answers.{Outcome, answer, output};
 ghost use Rattle.p5_lister.specs.Meaning.{NumberMeans, NextMeans};
 
-// How many words are listed.
+// How many words are listed; `wordCount` says the same.
 const TOTAL: usize = 5963;
 
-// A word of at most eight letters: the first `len`.
+// A listed word: the first `len` letters.
 struct Spelled {
     len: usize,
-    letters: [u32; 8],
+    letters: [u32; LONGEST],
 }
 
 fn wide8(x: u8) -> usize
@@ -47,30 +51,30 @@ fn letter(x: u16) -> u32
 fn up_to(word: &[u32]) -> usize
     ensures { λ r. ⌜ r ≡ upTo listing (now (word .entry)) ⌝ }
 {
-    let letters = cells::LETTERS;
-    let stops = cells::STOPS;
-    let downs = cells::DOWNS;
-    let nexts = cells::NEXTS;
-    let weights = cells::WEIGHTS;
-    let mut cell: usize = 210;
+    let letters = nodes::LETTERS;
+    let stops = nodes::STOPS;
+    let downs = nodes::DOWNS;
+    let nexts = nodes::NEXTS;
+    let weights = nodes::WEIGHTS;
+    let mut node: usize = nodes::ROOT;
     let mut count: usize = 0;
     let mut i: usize = 0;
-    while cell != 0 {
+    while node != 0 {
         if i == word.len() {
             return count;
         }
-        let x = letter(letters[cell]);
+        let x = letter(letters[node]);
         let y = word[i];
         if y < x {
             return count;
         }
         if x == y {
-            count += wide8(stops[cell]);
-            cell = wide8(downs[cell]);
+            count += wide8(stops[node]);
+            node = wide8(downs[node]);
             i += 1;
         } else {
-            count += wide16(weights[cell]);
-            cell = wide8(nexts[cell]);
+            count += wide16(weights[node]);
+            node = wide8(nexts[node]);
         }
     }
     count
@@ -78,40 +82,40 @@ fn up_to(word: &[u32]) -> usize
 
 // The word of number n.
 fn word_at(n: usize) -> Spelled
-    requires { ⌜ n < 5963 ⌝ }
-    ensures { λ r. ⌜ (r .len ≤ 8) × (take (r .len) (r .letters) ≡ nth listing n) ⌝ }
+    requires { ⌜ n < wordCount ⌝ }
+    ensures { λ r. ⌜ (r .len ≤ longestLength) × (take (r .len) (r .letters) ≡ nth listing n) ⌝ }
 {
-    let letters = cells::LETTERS;
-    let stops = cells::STOPS;
-    let downs = cells::DOWNS;
-    let nexts = cells::NEXTS;
-    let weights = cells::WEIGHTS;
-    let mut out = [0u32; 8];
+    let letters = nodes::LETTERS;
+    let stops = nodes::STOPS;
+    let downs = nodes::DOWNS;
+    let nexts = nodes::NEXTS;
+    let weights = nodes::WEIGHTS;
+    let mut out = [0u32; LONGEST];
     let mut len: usize = 0;
-    let mut cell: usize = 210;
+    let mut node: usize = nodes::ROOT;
     let mut left = n;
-    while cell != 0 {
-        let through = wide16(weights[cell]);
+    while node != 0 {
+        let through = wide16(weights[node]);
         if left < through {
-            out[len] = letter(letters[cell]);
+            out[len] = letter(letters[node]);
             len += 1;
-            let ends = wide8(stops[cell]);
+            let ends = wide8(stops[node]);
             if left < ends {
                 return Spelled { len, letters: out };
             }
             left -= ends;
-            cell = wide8(downs[cell]);
+            node = wide8(downs[node]);
         } else {
             left -= through;
-            cell = wide8(nexts[cell]);
+            node = wide8(nexts[node]);
         }
     }
     Spelled { len, letters: out }
 }
 
 // Writes the first n letters to the start of the output.
-fn put(letters: [u32; 8], n: usize, out: &mut [u32])
-    requires { ⌜ (n ≤ 8) × (n ≤ length (now out)) ⌝ }
+fn put(letters: [u32; LONGEST], n: usize, out: &mut [u32])
+    requires { ⌜ (n ≤ longestLength) × (n ≤ length (now out)) ⌝ }
     ensures { λ r. ⌜ now (out .exit) ≡ take n letters ++ drop n (now (out .entry)) ⌝ }
 {
     let mut i: usize = 0;
@@ -123,7 +127,7 @@ fn put(letters: [u32; 8], n: usize, out: &mut [u32])
 
 // How many words are listed: the numbers below this name them.
 pub fn total() -> usize
-    ensures { λ r. ⌜ (r ≡ 5963) × Many Listed r ⌝ }
+    ensures { λ r. ⌜ (r ≡ wordCount) × Many Listed r ⌝ }
 {
     TOTAL
 }
@@ -151,7 +155,7 @@ pub fn next_word(word: &[u32], out: &mut [u32]) -> Answer
     ensures { λ r. ⌜ ((u : Outcome) × NextMeans Listed (now (word .entry)) u
         × (r ≡ answer u (length (now (out .entry)))) × (now (out .exit) ≡ output u (now (out .entry)))) ⌝ }
 {
-    if 64 < word.len() {
+    if LETTERS < word.len() {
         return Answer::Refused(Refusal::Long);
     }
     if !letters::all_letters(word) {

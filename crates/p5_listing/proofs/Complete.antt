@@ -14,15 +14,16 @@ use Rattle.p1_letters.specs.Vowels.{vowels}
 use Rattle.p4_rows.specs.Rows.{Word, onsetRows, vowelRows, codaRows, onsetToVowels, vowelsToCoda}
 use Rattle.p4_rows.specs.Lookup.{inList, goTogether, allows, allowsAny}
 use Rattle.p4_rows.proofs.Words.{each-in}
-use Rattle.p4_rows.proofs.Listed.{joined, parts}
+use Rattle.p4_rows.proofs.InRows.{rowWords, parts}
 use Rattle.p4_spelling.specs.Cut.{onsetEnd, vowelRun, onsetOf, vowelsOf, codaOf}
 use Rattle.p4_spelling.specs.Verdict.{hasForeign, fits}
 use Rattle.p4_spelling.proofs.Parts.{Parts, parts-join, fits-parts}
-use Rattle.p5_trie.specs.Trie.{Trie}
-use Rattle.p5_trie.proofs.Tests.{holds}
-use Rattle.p5_listing.specs.Cells.{letters, stops, downs, nexts, grow, trieAt, listing}
+use Rattle.p5_trie.specs.Mirror.{Trie}
+use Rattle.p5_trie.proofs.Tests.{inTrie}
+use Rattle.p5_listing.specs.Mirror.{nodeLetters, nodeStops, nodeDowns, nodeNexts, grow, trieAt, listing}
 use Rattle.p5_listing.proofs.Plain.{Toneless, core}
-use Rattle.p5_listing.proofs.Quick.{quickAmong, quickSame, quickIn, quickRows, quickBefore, quickRun, quickGlued, quickPairs, quickShape, quickEnd, quickForeign, quick-shape, quick-end, quick-rest, quick-foreign}
+use Rattle.p5_listing.proofs.Quick.{quickAmong, quickSame, quickIn, quickRows, quickBefore, quickRun, quickGlued, quickPairs}
+use Rattle.p5_listing.proofs.Quick.{quickShape, quickEnd, quickForeign, quick-shape, quick-end, quick-rest, quick-foreign}
 
 -- w has an f j w z (fs), or its cut does not give the onset o and the vowels v; e is where its onset ends
 unfoldable astrayAt : List ℕ → Word → Word → Word → ℕ → Bool
@@ -35,7 +36,7 @@ astray fs vs gs o v w = elim (quickForeign fs w) [ true ↦ true | false ↦ ast
 unfoldable tried : Trie → List ℕ → List ℕ → List Word → Word → List ℕ → Word → List ℕ → Word → List ℕ → Word → Bool
 tried t fs vs gs o ro v vr c cr w =
     elim (quickShape o ro v vr c cr) [
-      | true ↦ elim (holds t w) [ true ↦ true | false ↦ astray fs vs gs o v w ]
+      | true ↦ elim (inTrie t w) [ true ↦ true | false ↦ astray fs vs gs o v w ]
       | false ↦ true
     ]
 
@@ -50,7 +51,9 @@ unfoldable tryAll : Trie → List ℕ → List ℕ → List Word → List (List 
 tryAll t fs vs gs onsets nuclei codas = each (λ o. tryVowels t fs vs gs nuclei codas o (quickRows 0 onsets o)) (parts onsets)
 
 tries-all : T (tryAll listing (word "fjwz") vowels (words "qu gi") onsetRows vowelRows codaRows)
-unfolding tryAll tryVowels tryCodas tried astray astrayAt holds parts joined listing trieAt grow letters stops downs nexts word words wordsFrom vowels onsetRows vowelRows codaRows onsetToVowels vowelsToCoda goTogether allows allowsAny quickAmong quickSame quickIn quickRows quickBefore quickRun quickGlued quickPairs quickShape quickEnd quickForeign
+unfolding tryAll tryVowels tryCodas tried astray astrayAt inTrie parts rowWords listing trieAt grow nodeLetters nodeStops nodeDowns
+    nodeNexts word words wordsFrom vowels onsetRows vowelRows codaRows onsetToVowels vowelsToCoda goTogether allows allowsAny quickAmong
+    quickSame quickIn quickRows quickBefore quickRun quickGlued quickPairs quickShape quickEnd quickForeign
 tries-all = tt
 
 -- the three ways through a lazy test
@@ -69,7 +72,13 @@ unfolding astray astrayAt onsetOf vowelsOf
 not-astray w t e h = go (quickForeign (word "fjwz") w) (quick-foreign w ∙ e) h
   where
     here : astrayAt vowels (onsetOf w) (vowelsOf w) w (quickEnd vowels (words "qu gi") w) ≡ false
-    here = rw (quick-end w t, quick-rest w t, same-self (take (onsetEnd w) w), same-self (take (vowelRun (drop (onsetEnd w) w)) (drop (onsetEnd w) w)))
+    here = rw (
+      quick-end w t,
+      quick-rest w t,
+      same-self (take (onsetEnd w) w),
+      same-self
+          (take (vowelRun (drop (onsetEnd w) w)) (drop (onsetEnd w) w)),
+    )
 
     go : (b : Bool) → b ≡ false
         → T (elim b [ true ↦ true | false ↦ astrayAt vowels (onsetOf w) (vowelsOf w) w (quickEnd vowels (words "qu gi") w) ]) → ⊥
@@ -77,9 +86,10 @@ not-astray w t e h = go (quickForeign (word "fjwz") w) (quick-foreign w ∙ e) h
     go false q k = rw here at k
 
 -- the word w of parts o, v and c
-held-at : (o v c w : Word) → o ++ (v ++ c) ≡ w → T (inList o (parts onsetRows)) → T (inList v (parts vowelRows)) → T (inList c (parts codaRows))
+held-at : (o v c w : Word) → o ++ (v ++ c) ≡ w → T (inList o (parts onsetRows)) → T (inList v (parts vowelRows))
+    → T (inList c (parts codaRows))
     → T (quickShape o (quickRows 0 onsetRows o) v (quickRows 0 vowelRows v) c (quickRows 0 codaRows c))
-    → (T (astray (word "fjwz") vowels (words "qu gi") o v w) → ⊥) → T (holds listing w)
+    → (T (astray (word "fjwz") vowels (words "qu gi") o v w) → ⊥) → T (inTrie listing w)
 unfolding tryAll tryVowels tryCodas tried
 held-at o v c w e po pv pc s n =
     let F : List ℕ = word "fjwz" in
@@ -92,18 +102,18 @@ held-at o v c w e po pv pc s n =
     each-in (λ (x : Word). tryCodas listing F vowels G codaRows o ro x (quickRows 0 vowelRows x)) (parts vowelRows) at-onset v pv in
     let at-coda : T (tried listing F vowels G o ro v rv c (quickRows 0 codaRows c) (o ++ (v ++ c))) =
     each-in (λ (x : Word). tried listing F vowels G o ro v rv x (quickRows 0 codaRows x) (o ++ (v ++ x))) (parts codaRows) at-vowels c pc in
-    through (quickShape o ro v rv c (quickRows 0 codaRows c)) (holds listing w) (astray F vowels G o v w)
+    through (quickShape o ro v rv c (quickRows 0 codaRows c)) (inTrie listing w) (astray F vowels G o v w)
     (subst (λ (u : Word). T (tried listing F vowels G o ro v rv c (quickRows 0 codaRows c) u)) e at-coda) s n
 
-fits-held : (w : Word) → Toneless w → hasForeign w ≡ false → T (fits w) → T (holds listing w)
+fits-held : (w : Word) → Toneless w → hasForeign w ≡ false → T (fits w) → T (inTrie listing w)
 fits-held w t e f =
     let p : Parts w = fits-parts w f in
     held-at (onsetOf w) (vowelsOf w) (codaOf w) w (parts-join w) (p .onset) (p .vowels) (p .coda) (rw (quick-shape w) f) (not-astray w t e)
 
-pub core-held : (w : Word) → Toneless w → T (core w) → T (holds listing w)
+pub core-held : (w : Word) → Toneless w → T (core w) → T (inTrie listing w)
 unfolding core
 core-held w t h = go (hasForeign w) refl h
   where
-    go : (b : Bool) → hasForeign w ≡ b → T (pick b false (fits w)) → T (holds listing w)
+    go : (b : Bool) → hasForeign w ≡ b → T (pick b false (fits w)) → T (inTrie listing w)
     go true e q = absurd q
     go false e q = fits-held w t e q

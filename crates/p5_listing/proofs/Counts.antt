@@ -15,15 +15,15 @@ use Rattle.p4_rows.specs.Rows.{Word}
 use Rattle.p4_rows.specs.Lookup.{isEmpty}
 use Rattle.p4_rows.proofs.Words.{each-in}
 use Rattle.p4_spelling.specs.Cut.{beforeVowel, vowelRun, isGlue, startsGlued, onsetEnd, onsetOf, vowelsOf}
-use Rattle.p4_spelling.specs.Verdict.{verdict}
+use Rattle.p4_spelling.specs.Verdict.{verdict, longestLength}
 use Rattle.p4_spelling.proofs.Folding.{too-long}
-use Rattle.p5_trie.specs.Trie.{Trie, size, nth}
-use Rattle.p5_trie.proofs.Tests.{holds}
+use Rattle.p5_trie.specs.Mirror.{Trie, trieSize, nth}
+use Rattle.p5_trie.proofs.Tests.{inTrie}
 use Rattle.p5_trie.proofs.Numbering as Tries
-use Rattle.p5_trie.proofs.Kept.{kept, kept-lists}
+use Rattle.p5_trie.proofs.Kept.{keptIn, kept-lists}
 use Rattle.p5_listing.specs.Listed.{Listed}
 use Rattle.p5_listing.specs.Counts.{isBareOnset, isWithoutOnset, hasBoth, ManyListed, Counts}
-use Rattle.p5_listing.specs.Cells.{letters, stops, downs, nexts, grow, trieAt, listing}
+use Rattle.p5_listing.specs.Mirror.{nodeLetters, nodeStops, nodeDowns, nodeNexts, grow, trieAt, listing}
 use Rattle.p5_listing.proofs.Plain.{Toneless, plain-toneless}
 use Rattle.p5_listing.proofs.Quick.{quickAmong, quick-vowel}
 use Rattle.p5_listing.proofs.Numbering.{lists, numbering}
@@ -41,18 +41,19 @@ unfoldable quickBoth : List ℕ → Word → Bool
 quickBoth vs u = elim (quickWithout vs u) [ true ↦ false | false ↦ elim (quickBare vs u) [ true ↦ false | false ↦ true ] ]
 
 how-many : (List ℕ → Word → Bool) → Trie → List ℕ → ℕ
-how-many f t vs = size (kept (λ u. f vs u) t)
+how-many f t vs = trieSize (keptIn (λ u. f vs u) t)
 
 bare : how-many quickBare listing vowels ≡ 25
-unfolding how-many size kept quickBare listing trieAt grow letters stops downs nexts word vowels quickAmong
+unfolding how-many trieSize keptIn quickBare listing trieAt grow nodeLetters nodeStops nodeDowns nodeNexts word vowels quickAmong
 bare = refl
 
 without : how-many quickWithout listing vowels ≡ 217
-unfolding how-many size kept quickWithout listing trieAt grow letters stops downs nexts word vowels quickAmong
+unfolding how-many trieSize keptIn quickWithout listing trieAt grow nodeLetters nodeStops nodeDowns nodeNexts word vowels quickAmong
 without = refl
 
 both : how-many quickBoth listing vowels ≡ 5721
-unfolding how-many size kept quickBoth quickBare quickWithout listing trieAt grow letters stops downs nexts word vowels quickAmong
+unfolding how-many trieSize keptIn quickBoth quickBare quickWithout listing trieAt grow nodeLetters nodeStops nodeDowns nodeNexts word
+    vowels quickAmong
 both = refl
 
 -- ---- they are the kinds
@@ -76,7 +77,12 @@ unfolding quickBare
 glued-bare x y z u e = go (quickAmong x vowels) (quickAmong y vowels)
   where
     go : (a b : Bool)
-        → _≡_ {A = Bool} (elim a [ true ↦ false | false ↦ elim b [ true ↦ false | false ↦ elim (quickAmong z vowels) [ true ↦ false | false ↦ quickBare vowels u ] ] ]) false
+        → _≡_ {A = Bool}
+        (elim a [
+          | true ↦ false
+          | false ↦ elim b
+              [ true ↦ false | false ↦ elim (quickAmong z vowels) [ true ↦ false | false ↦ quickBare vowels u ] ]
+        ]) false
     go true b = refl
     go false true = refl
     go false false = rw (quickBare, e)
@@ -139,7 +145,8 @@ unfolding quickBoth hasBoth
 both-is u t = go (quickBare vowels u) (quickWithout vowels u) (kinds u t .bare-is) (kinds u t .without-is)
   where
     go : (a b : Bool) → a ≡ isBareOnset u → b ≡ isWithoutOnset u
-        → _≡_ {A = Bool} (elim b [ true ↦ false | false ↦ elim a [ true ↦ false | false ↦ true ] ]) (pick (isBareOnset u) false (pick (isWithoutOnset u) false true))
+        → _≡_ {A = Bool} (elim b [ true ↦ false | false ↦ elim a [ true ↦ false | false ↦ true ] ])
+        (pick (isBareOnset u) false (pick (isWithoutOnset u) false true))
     go true true e f = rw (← e)
     go true false e f = rw (← e)
     go false true e f = rw (← e, ← f)
@@ -149,27 +156,27 @@ both-is u t = go (quickBare vowels u) (quickWithout vowels u) (kinds u t .bare-i
 toneless : (u : Word) → Listed u → Toneless u
 toneless u l = subst Toneless (l .isPlain) (plain-toneless u)
 
-many : (quick f : Word → Bool) (n : ℕ) → ((u : Word) → Toneless u → quick u ≡ f u) → size (kept quick listing) ≡ n → ManyListed f n
+many : (quick f : Word → Bool) (n : ℕ) → ((u : Word) → Toneless u → quick u ≡ f u) → trieSize (keptIn quick listing) ≡ n → ManyListed f n
 many quick f n same count =
-    let l : Tries.Lists (λ (u : Word). Listed u × T (f u)) (kept quick listing) =
+    let l : Tries.Lists (λ (u : Word). Listed u × T (f u)) (keptIn quick listing) =
     kept-lists quick lists (λ u p t. (p, rw (same u (toneless u p)) at t)) (λ u q. (q .0, rw (same u (toneless u (q .0))) (q .1))) in
-    (nth (kept quick listing), rw count at (Tries.numbering l))
+    (nth (keptIn quick listing), rw count at (Tries.numbering l))
 
 -- ---- the longest
 longest : Word
 longest = word "nghuyêng"
 
-longest-held : T (holds listing longest)
-unfolding longest holds listing trieAt grow letters stops downs nexts word
+longest-held : T (inTrie listing longest)
+unfolding longest inTrie listing trieAt grow nodeLetters nodeStops nodeDowns nodeNexts word
 longest-held = tt
 
-eight-letters : length longest ≡ 8
+eight-letters : length longest ≡ longestLength
 unfolding longest word
 eight-letters = refl
 
-none-longer : (u : Word) → Listed u → length u ≤ 8
+none-longer : (u : Word) → Listed u → length u ≤ longestLength
 none-longer u l =
-    ⊎-elim (λ h. absurd (let t : T (verdict u) = l .accepted in rw (← too-long u h) at t)) (λ h. h) (below-or-not 8 (length u))
+    ⊎-elim (λ h. absurd (let t : T (verdict u) = l .accepted in rw (← too-long u h) at t)) (λ h. h) (below-or-not longestLength (length u))
 
 -- "5,963 toneless words pass: 25 bare onsets, 217 without onset, 5,721 with onset and vowels"; "The longest has 8 letters."
 pub counts : Counts

@@ -6,36 +6,37 @@ use lib.Dec.{T, eqb}
 use Rattle.p4_rows.specs.Rows.{Word}
 use Rattle.p4_spelling.specs.Verdict.{verdict}
 use Rattle.p4_spelling.proofs.Letters.{plainLetter}
-use Rattle.p5_trie.specs.Trie.{size, nth}
+use Rattle.p5_trie.specs.Mirror.{trieSize, nth}
 use Rattle.p5_trie.specs.Numbering.{Found, Numbering, Named}
-use Rattle.p5_trie.proofs.Tests.{holds}
+use Rattle.p5_trie.proofs.Tests.{inTrie}
 use Rattle.p5_trie.proofs.Words.{Numbered, sorted, numbered, every-nth, letters-nth}
 use Rattle.p5_trie.proofs.Numbering as Tries
 use Rattle.p5_listing.specs.Listed.{plain, Listed}
-use Rattle.p5_listing.specs.Cells.{listing}
+use Rattle.p5_listing.specs.Mirror.{listing}
+use Rattle.p5_listing.specs.Counts.{wordCount}
 use Rattle.p5_listing.proofs.Plain.{Toneless, core, plain-again, each-plain, plain-toneless, verdict-core, verdict-plain}
 use Rattle.p5_listing.proofs.Quick.{quick, quick-core}
 use Rattle.p5_listing.proofs.Computed.{size-listing, sorted-listing, all-accepted}
 use Rattle.p5_listing.proofs.Complete.{core-held}
-use Rattle.p5_listing.proofs.Cells.{listing-plain}
+use Rattle.p5_listing.proofs.Nodes.{listing-plain}
 
-number-plain : (n : ℕ) → n < size listing → plain (nth listing n) ≡ nth listing n
+number-plain : (n : ℕ) → n < trieSize listing → plain (nth listing n) ≡ nth listing n
 number-plain n h = each-plain (nth listing n) (letters-nth (λ (x : ℕ). eqb (plainLetter x) x) listing listing-plain n h)
 
 -- a plain word's verdict, as the tests have it
 pub verdict-quick : (u : Word) → plain u ≡ u → verdict u ≡ quick u
 verdict-quick u e = verdict-core u ∙ ap core e ∙ sym (quick-core u (subst Toneless e (plain-toneless u)))
 
-number-listed : (n : ℕ) → n < size listing → Listed (nth listing n)
+number-listed : (n : ℕ) → n < trieSize listing → Listed (nth listing n)
 number-listed n h = record {
   accepted = rw (verdict-quick (nth listing n) (number-plain n h)) (every-nth listing quick all-accepted n h);
   isPlain = number-plain n h;
 }
 
-held-listed : (u : Word) → T (holds listing u) → Listed u
+held-listed : (u : Word) → T (inTrie listing u) → Listed u
 held-listed u h = let r : Numbered listing u = numbered listing u h in subst Listed (r .is) (number-listed (r .number) (r .small))
 
-listed-held : (u : Word) → Listed u → T (holds listing u)
+listed-held : (u : Word) → Listed u → T (inTrie listing u)
 listed-held u l =
     let t : T (core (plain u)) = rw (verdict-core u) at (l .accepted) in
     rw (l .isPlain) at (core-held (plain u) (plain-toneless u) t)
@@ -43,14 +44,15 @@ listed-held u l =
 pub lists : Tries.Lists Listed listing
 lists = record { sorted = sorted listing sorted-listing; only = held-listed; all = listed-held }
 
-pub numbering : Numbering Listed (nth listing) 5963
+pub numbering : Numbering Listed (nth listing) wordCount
 numbering = subst (λ (n : ℕ). Numbering Listed (nth listing) n) size-listing (Tries.numbering lists)
 
 -- "A word is accepted exactly if its lower-case toneless form is listed."
 pub accepted-has-number : (w : Word) → T (verdict w) → (n : ℕ) × Named Listed n (plain w)
 accepted-has-number w t =
-    let r : Found (nth listing) 5963 (plain w) = numbering .every (plain w) (record { accepted = rw (verdict-plain w) t; isPlain = plain-again w }) in
-    (r .number, record { order = nth listing; total = 5963; numbers = numbering; small = r .small; is = r .is })
+    let r : Found (nth listing) wordCount (plain w) =
+    numbering .every (plain w) (record { accepted = rw (verdict-plain w) t; isPlain = plain-again w }) in
+    (r .number, record { order = nth listing; total = wordCount; numbers = numbering; small = r .small; is = r .is })
 
 pub number-is-accepted : (w : Word) (n : ℕ) → Named Listed n (plain w) → T (verdict w)
 number-is-accepted w n r =

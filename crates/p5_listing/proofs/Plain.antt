@@ -12,7 +12,7 @@ use Rattle.p1_letters.specs.Alphabet.{lower, isAsciiCapital, smallBy32, smallBy
 use Rattle.p1_letters.specs.Tones.{toneOff, offIn, toneRows}
 use Rattle.p4_rows.specs.Rows.{Word}
 use Rattle.p4_spelling.specs.Verdict.{hasForeign, fits, lowered, toneless, verdict}
-use Rattle.p4_spelling.proofs.Letters.{plainLetter, joined, touched, Stays, every-letter, letter-plain, foreign-kept}
+use Rattle.p4_spelling.proofs.Letters.{plainLetter, joined, touched, Stays, each-code-point, plain-stays, foreign-kept}
 use Rattle.p5_listing.specs.Listed.{plain}
 
 settles : ℕ → Bool
@@ -20,20 +20,20 @@ settles x = eqb (plainLetter (plainLetter x)) (plainLetter x)
 
 pub letter-settles : (x : ℕ) → plainLetter (plainLetter x) ≡ plainLetter x
 unfolding settles plainLetter touched joined word lower isAsciiCapital smallBy32 smallBy1 smallHigh smallNext toneOff offIn toneRows
-letter-settles x = eqb-true (plainLetter (plainLetter x)) (plainLetter x) (every-letter settles settled tt x)
+letter-settles x = eqb-true (plainLetter (plainLetter x)) (plainLetter x) (each-code-point settles settled tt x)
   where
     settled : (y : ℕ) → Stays y → settles y ≡ true
-    settled y s = eq-eqb (plainLetter (plainLetter y)) (plainLetter y) (ap plainLetter (letter-plain y s))
+    settled y s = eq-eqb (plainLetter (plainLetter y)) (plainLetter y) (ap plainLetter (plain-stays y s))
 
 toneless-letter : ℕ → Bool
 toneless-letter x = eqb (toneOff (plainLetter x)) (plainLetter x)
 
 pub letter-toneless : (x : ℕ) → toneOff (plainLetter x) ≡ plainLetter x
 unfolding toneless-letter plainLetter touched joined word lower isAsciiCapital smallBy32 smallBy1 smallHigh smallNext toneOff offIn toneRows
-letter-toneless x = eqb-true (toneOff (plainLetter x)) (plainLetter x) (every-letter toneless-letter kept tt x)
+letter-toneless x = eqb-true (toneOff (plainLetter x)) (plainLetter x) (each-code-point toneless-letter kept tt x)
   where
     kept : (y : ℕ) → Stays y → toneless-letter y ≡ true
-    kept y s = eq-eqb (toneOff (plainLetter y)) (plainLetter y) (ap toneOff (letter-plain y s) ∙ s .off ∙ sym (letter-plain y s))
+    kept y s = eq-eqb (toneOff (plainLetter y)) (plainLetter y) (ap toneOff (plain-stays y s) ∙ s .off ∙ sym (plain-stays y s))
 
 cons-both : {x y : ℕ} {u w : Word} → x ≡ y → u ≡ w → x ∷ u ≡ y ∷ w
 cons-both e f = ap₂ (λ (a : ℕ) (b : Word). a ∷ b) e f
@@ -54,7 +54,8 @@ plain-again (x ∷ w) =
 -- a word whose letters each are their own lower-case toneless form is its own
 pub each-plain : (w : Word) → T (each (λ (x : ℕ). eqb (plainLetter x) x) w) → plain w ≡ w
 each-plain [] t = plain-nil
-each-plain (x ∷ w) t = plain-cons x w ∙ cons-both (eqb-true (plainLetter x) x (pick-first _ _ t)) (each-plain w (pick-second (eqb (plainLetter x) x) _ t))
+each-plain (x ∷ w) t = plain-cons x w
+    ∙ cons-both (eqb-true (plainLetter x) x (pick-first _ _ t)) (each-plain w (pick-second (eqb (plainLetter x) x) _ t))
 
 -- no letter of the word has a tone
 abbrev pub Toneless : Word → Type 0

@@ -11,9 +11,9 @@ use Rattle.p0_choice.specs.Text.{word, words}
 use Rattle.p1_letters.specs.Tones.{toneOff}
 use Rattle.p1_letters.specs.Vowels.{isSpellingVowel, vowels}
 use Rattle.p4_rows.specs.Rows.{Word, onsetRows, vowelRows, codaRows, onsetToVowels, vowelsToCoda}
-use Rattle.p4_rows.specs.Lookup.{sameWord, inList, rowsFrom, rowsOf, listed, isEmpty, goTogether}
+use Rattle.p4_rows.specs.Lookup.{sameWord, inList, rowsFrom, rowsOf, inRows, isEmpty, goTogether}
 use Rattle.p4_spelling.specs.Cut.{beforeVowel, vowelRun, isGlue, startsGlued, onsetEnd, onsetOf, vowelsOf, codaOf}
-use Rattle.p4_spelling.specs.Verdict.{hasForeign, listedIfAny, onsetFits, codaFits, partsFit, fits}
+use Rattle.p4_spelling.specs.Verdict.{hasForeign, inRowsIfAny, onsetFits, codaFits, partsFit, fits}
 use Rattle.p4_spelling.proofs.Parts.{coda-after}
 use Rattle.p5_listing.proofs.Plain.{Toneless, core}
 
@@ -61,7 +61,8 @@ quick-rows : (i : ℕ) (rs : List (List Word)) (w : Word) → quickRows i rs w �
 unfolding quickRows rowsFrom
 quick-rows i [] w = refl
 quick-rows i (r ∷ rs) w =
-    lazily (quickIn w r) (inList w r) (i ∷ quickRows (suc i) rs w) (quickRows (suc i) rs w) (i ∷ rowsFrom (suc i) rs w) (rowsFrom (suc i) rs w)
+    lazily (quickIn w r) (inList w r) (i ∷ quickRows (suc i) rs w) (quickRows (suc i) rs w) (i ∷ rowsFrom (suc i) rs w)
+    (rowsFrom (suc i) rs w)
     (quick-in w r) (ap (λ (l : List ℕ). i ∷ l) (quick-rows (suc i) rs w)) (quick-rows (suc i) rs w)
 
 -- the cut, where vs are the vowels and gs the glued starts
@@ -103,7 +104,8 @@ quick-glued [] t = refl
 quick-glued (x ∷ []) t = refl
 quick-glued (x ∷ y ∷ []) t = refl
 quick-glued (x ∷ y ∷ z ∷ w) t =
-    lazily (quickIn (x ∷ y ∷ []) (words "qu gi")) (inList (x ∷ y ∷ []) (words "qu gi")) (quickAmong z vowels) false (isSpellingVowel z) false
+    lazily (quickIn (x ∷ y ∷ []) (words "qu gi")) (inList (x ∷ y ∷ []) (words "qu gi")) (quickAmong z vowels) false
+    (isSpellingVowel z) false
     (quick-in (x ∷ y ∷ []) (words "qu gi")) (quick-vowel z (t .1 .1 .0)) refl
 
 toneless-drop : (n : ℕ) (w : Word) → Toneless w → Toneless (drop n w)
@@ -124,7 +126,7 @@ quickPairs noOnset os vs noCoda cs =
 
 quick-parts : (o v c : Word)
     → quickPairs (isEmpty o) (quickRows 0 onsetRows o) (quickRows 0 vowelRows v) (isEmpty c) (quickRows 0 codaRows c) ≡ partsFit o v c
-unfolding quickPairs partsFit listedIfAny listed rowsOf onsetFits codaFits
+unfolding quickPairs partsFit inRowsIfAny inRows rowsOf onsetFits codaFits
 quick-parts o v c = rw (quick-rows 0 onsetRows o, quick-rows 0 vowelRows v, quick-rows 0 codaRows c)
 
 -- the verdict on three parts and their rows
@@ -133,12 +135,14 @@ quickShape o os v vs c cs =
     elim (isEmpty v) [ true ↦ pick (isEmpty os) false true | false ↦ quickPairs (isEmpty o) os vs (isEmpty c) cs ]
 
 pub quick-shape : (w : Word)
-    → quickShape (onsetOf w) (quickRows 0 onsetRows (onsetOf w)) (vowelsOf w) (quickRows 0 vowelRows (vowelsOf w)) (codaOf w) (quickRows 0 codaRows (codaOf w)) ≡ fits w
-unfolding quickShape fits listed rowsOf
+    → quickShape (onsetOf w) (quickRows 0 onsetRows (onsetOf w)) (vowelsOf w) (quickRows 0 vowelRows (vowelsOf w)) (codaOf w)
+    (quickRows 0 codaRows (codaOf w)) ≡ fits w
+unfolding quickShape fits inRows rowsOf
 quick-shape w =
     lazily (isEmpty (vowelsOf w)) (isEmpty (vowelsOf w)) _ _ (pick (isEmpty (rowsFrom 0 onsetRows (onsetOf w))) false true)
     (partsFit (onsetOf w) (vowelsOf w) (codaOf w)) refl
-    (ap (λ (l : List ℕ). pick (isEmpty l) false true) (quick-rows 0 onsetRows (onsetOf w))) (quick-parts (onsetOf w) (vowelsOf w) (codaOf w))
+    (ap (λ (l : List ℕ). pick (isEmpty l) false true) (quick-rows 0 onsetRows (onsetOf w)))
+    (quick-parts (onsetOf w) (vowelsOf w) (codaOf w))
 
 unfoldable pub quickEnd : List ℕ → List Word → Word → ℕ
 quickEnd vs gs w = elim (quickGlued vs gs w) [ true ↦ 2 | false ↦ quickBefore vs w ]
@@ -146,7 +150,8 @@ quickEnd vs gs w = elim (quickGlued vs gs w) [ true ↦ 2 | false ↦ quickBefor
 pub quick-end : (w : Word) → Toneless w → quickEnd vowels (words "qu gi") w ≡ onsetEnd w
 unfolding quickEnd onsetEnd
 quick-end w t =
-    lazily (quickGlued vowels (words "qu gi") w) (startsGlued w) 2 (quickBefore vowels w) 2 (beforeVowel w) (quick-glued w t) refl (quick-before w t)
+    lazily (quickGlued vowels (words "qu gi") w) (startsGlued w) 2 (quickBefore vowels w) 2 (beforeVowel w) (quick-glued w t) refl
+    (quick-before w t)
 
 pub quick-rest : (w : Word) → Toneless w → quickRun vowels (drop (onsetEnd w) w) ≡ vowelRun (drop (onsetEnd w) w)
 quick-rest w t = quick-run (drop (onsetEnd w) w) (toneless-drop (onsetEnd w) w t)
@@ -168,7 +173,8 @@ fits-parted : (w : Word) → quickParted onsetRows vowelRows codaRows (onsetOf w
 unfolding quickParted
 fits-parted w = quick-shape w
 
-quick-parted : (w : Word) → quickRest onsetRows vowelRows codaRows (take (onsetEnd w) w) (vowelRun (drop (onsetEnd w) w)) (drop (onsetEnd w) w) ≡ fits w
+quick-parted : (w : Word) → quickRest onsetRows vowelRows codaRows (take (onsetEnd w) w) (vowelRun (drop (onsetEnd w) w))
+    (drop (onsetEnd w) w) ≡ fits w
 unfolding quickRest onsetOf vowelsOf
 quick-parted w = rw (← coda-after w) (fits-parted w)
 
@@ -184,7 +190,8 @@ pub quick-foreign : (w : Word) → quickForeign (word "fjwz") w ≡ hasForeign w
 unfolding quickForeign hasForeign
 quick-foreign [] = refl
 quick-foreign (x ∷ w) =
-    lazily (quickAmong x (word "fjwz")) (among x (word "fjwz")) true (quickForeign (word "fjwz") w) true (hasForeign w) (quick-among x (word "fjwz")) refl
+    lazily (quickAmong x (word "fjwz")) (among x (word "fjwz")) true (quickForeign (word "fjwz") w) true (hasForeign w)
+    (quick-among x (word "fjwz")) refl
     (quick-foreign w)
 
 unfoldable pub quickCore : List (List Word) → List (List Word) → List (List Word) → List ℕ → List Word → List ℕ → Word → Bool
@@ -197,5 +204,6 @@ quick w = quickCore onsetRows vowelRows codaRows vowels (words "qu gi") (word "f
 pub quick-core : (w : Word) → Toneless w → quick w ≡ core w
 unfolding quick quickCore core
 quick-core w t =
-    lazily (quickForeign (word "fjwz") w) (hasForeign w) false (quickFits onsetRows vowelRows codaRows vowels (words "qu gi") w) false (fits w)
+    lazily (quickForeign (word "fjwz") w) (hasForeign w) false (quickFits onsetRows vowelRows codaRows vowels (words "qu gi") w) false
+    (fits w)
     (quick-foreign w) refl (quick-fits w t)

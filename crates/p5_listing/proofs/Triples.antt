@@ -10,16 +10,16 @@ use lib.ListN.{length}
 use Rattle.p0_choice.specs.Choice.{pick}
 use Rattle.p0_choice.specs.Text.{word, words, wordsFrom}
 use Rattle.p4_rows.specs.Rows.{Word, onsetRows, vowelRows, codaRows, onsetToVowels, vowelsToCoda}
-use Rattle.p4_rows.specs.Lookup.{sameWord, inList, rowsFrom, rowsOf, listed, allows, allowsAny, goTogether}
-use Rattle.p4_spelling.specs.Verdict.{hasForeign, listedIfAny, onsetFits, codaFits, partsFit}
+use Rattle.p4_rows.specs.Lookup.{sameWord, inList, rowsFrom, rowsOf, inRows, allows, allowsAny, goTogether}
+use Rattle.p4_spelling.specs.Verdict.{hasForeign, inRowsIfAny, onsetFits, codaFits, partsFit}
 use Rattle.p5_listing.specs.Triples.{once, unforeign, onsets, vowelParts, codas, howMany, pairs, fitting, triples}
 
 -- ---- onset and coda each go with the vowels, so that their numbers are multiplied
 onsetGoes : Word → Word → Bool
-onsetGoes v o = pick (listedIfAny onsetRows o) (pick (listed vowelRows v) (onsetFits o (rowsOf vowelRows v)) false) false
+onsetGoes v o = pick (inRowsIfAny onsetRows o) (pick (inRows vowelRows v) (onsetFits o (rowsOf vowelRows v)) false) false
 
 codaGoes : Word → Word → Bool
-codaGoes v c = pick (listedIfAny codaRows c) (codaFits (rowsOf vowelRows v) c) false
+codaGoes v c = pick (inRowsIfAny codaRows c) (codaFits (rowsOf vowelRows v) c) false
 
 apart : (a l k f g : Bool)
     → pick a (pick l (pick k (pick f g false) false) false) false ≡ pick (pick a (pick l f false) false) (pick k g false) false
@@ -32,7 +32,7 @@ apart false l k f g = refl
 goes : (o v c : Word) → partsFit o v c ≡ pick (onsetGoes v o) (codaGoes v c) false
 unfolding partsFit onsetGoes codaGoes
 goes o v c =
-    apart (listedIfAny onsetRows o) (listed vowelRows v) (listedIfAny codaRows c)
+    apart (inRowsIfAny onsetRows o) (inRows vowelRows v) (inRowsIfAny codaRows c)
     (onsetFits o (rowsOf vowelRows v)) (codaFits (rowsOf vowelRows v) c)
 
 module _ (v : Word) where
@@ -72,7 +72,9 @@ fitting-are os [] cs = refl
 fitting-are os (v ∷ vs) cs = ap₂ _+_ (pairs-are v os cs) (fitting-are os vs cs)
 
 computed : length onsets + products ([] ∷ onsets) vowelParts ([] ∷ codas) ≡ 5977
-unfolding onsets vowelParts codas once unforeign howMany products onsetGoes codaGoes flatten word words wordsFrom onsetRows vowelRows codaRows onsetToVowels vowelsToCoda sameWord inList rowsFrom rowsOf listed allows allowsAny goTogether hasForeign listedIfAny onsetFits codaFits
+unfolding onsets vowelParts codas once unforeign howMany products onsetGoes codaGoes flatten word words wordsFrom onsetRows vowelRows
+    codaRows onsetToVowels vowelsToCoda sameWord inList rowsFrom rowsOf inRows allows allowsAny goTogether hasForeign inRowsIfAny onsetFits
+    codaFits
 computed = refl
 
 pub triples-are : triples ≡ 5977

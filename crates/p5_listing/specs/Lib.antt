@@ -1,4 +1,4 @@
 pub mod Listed
-pub mod Cells
+pub mod Mirror
 pub mod Counts
 pub mod Triples

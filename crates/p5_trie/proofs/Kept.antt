@@ -7,8 +7,8 @@ use mathlib.Core.List.{List, [], _∷_}
 use lib.Dec.{T, eqb}
 use mir.Facts.{or-yes}
 use borrow.Author.Tests.{eqb-true}
-use Rattle.p5_trie.specs.Trie.{Trie, none, cell}
-use Rattle.p5_trie.proofs.Tests.{endsHere, holds}
+use Rattle.p5_trie.specs.Mirror.{Trie, none, node}
+use Rattle.p5_trie.proofs.Tests.{endsHere, inTrie}
 use Rattle.p5_trie.proofs.Words.{Above, Sorted}
 use Rattle.p5_trie.proofs.Numbering.{Lists, or-left, or-right}
 
@@ -16,19 +16,19 @@ use Rattle.p5_trie.proofs.Numbering.{Lists, or-left, or-right}
 abbrev stays : (List ℕ → Bool) → ℕ → Bool → Bool
 stays f x ends = elim ends [ true ↦ f (x ∷ []) | false ↦ false ]
 
-unfoldable pub kept : (List ℕ → Bool) → Trie → Trie
-kept f none = none
-kept f (cell x ends down next) = cell x (stays f x ends) (kept (λ w. f (x ∷ w)) down) (kept f next)
+unfoldable pub keptIn : (List ℕ → Bool) → Trie → Trie
+keptIn f none = none
+keptIn f (node x ends down next) = node x (stays f x ends) (keptIn (λ w. f (x ∷ w)) down) (keptIn f next)
 
-kept-above : (f : List ℕ → Bool) (c : ℕ) (t : Trie) → Above c t → Above c (kept f t)
-unfolding kept
+kept-above : (f : List ℕ → Bool) (c : ℕ) (t : Trie) → Above c t → Above c (keptIn f t)
+unfolding keptIn
 kept-above f c none h = h
-kept-above f c (cell x a d s) h = h
+kept-above f c (node x a d s) h = h
 
-pub kept-sorted : (f : List ℕ → Bool) (t : Trie) → Sorted t → Sorted (kept f t)
-unfolding kept
+pub kept-sorted : (f : List ℕ → Bool) (t : Trie) → Sorted t → Sorted (keptIn f t)
+unfolding keptIn
 kept-sorted f none o = tt
-kept-sorted f (cell c a d s) o = (kept-above f c s (o .0), (kept-sorted (λ w. f (c ∷ w)) d (o .1 .0), kept-sorted f s (o .1 .1)))
+kept-sorted f (node c a d s) o = (kept-above f c s (o .0), (kept-sorted (λ w. f (c ∷ w)) d (o .1 .0), kept-sorted f s (o .1 .1)))
 
 -- what is held of the kept words, and of which
 ends-kept : (f : List ℕ → Bool) (c : ℕ) (a : Bool) (w : List ℕ) → T (endsHere w (stays f c a)) → T (endsHere w a) × T (f (c ∷ w))
@@ -41,47 +41,49 @@ kept-ends f c true [] t h = h
 kept-ends f c false [] t h = absurd t
 kept-ends f c a (x ∷ w) t h = absurd t
 
-pub held-kept : (f : List ℕ → Bool) (t : Trie) (w : List ℕ) → T (holds (kept f t) w) → T (holds t w) × T (f w)
-unfolding holds kept
+pub held-kept : (f : List ℕ → Bool) (t : Trie) (w : List ℕ) → T (inTrie (keptIn f t) w) → T (inTrie t w) × T (f w)
+unfolding inTrie keptIn
 held-kept f none w t = absurd t
-held-kept f (cell c a d s) [] t = absurd t
-held-kept f (cell c a d s) (x ∷ w) t = go (eqb c x) refl t (λ q. held-kept (λ v. f (c ∷ v)) d w q) (λ q. held-kept f s (x ∷ w) q)
+held-kept f (node c a d s) [] t = absurd t
+held-kept f (node c a d s) (x ∷ w) t = go (eqb c x) refl t (λ q. held-kept (λ v. f (c ∷ v)) d w q) (λ q. held-kept f s (x ∷ w) q)
   where
-    here : T (endsHere w (stays f c a) || holds (kept (λ v. f (c ∷ v)) d) w)
-        → (T (holds (kept (λ v. f (c ∷ v)) d) w) → T (holds d w) × T (f (c ∷ w))) → T (endsHere w a || holds d w) × T (f (c ∷ w))
+    here : T (endsHere w (stays f c a) || inTrie (keptIn (λ v. f (c ∷ v)) d) w)
+        → (T (inTrie (keptIn (λ v. f (c ∷ v)) d) w) → T (inTrie d w) × T (f (c ∷ w))) → T (endsHere w a || inTrie d w) × T (f (c ∷ w))
     here q down =
-        ⊎-elim (λ p. let r : T (endsHere w a) × T (f (c ∷ w)) = ends-kept f c a w p in (or-left (endsHere w a) (holds d w) (r .0), r .1))
-        (λ p. (or-right (endsHere w a) (holds d w) (down p .0), down p .1))
-        (or-yes (endsHere w (stays f c a)) (holds (kept (λ v. f (c ∷ v)) d) w) q)
+        ⊎-elim (λ p. let r : T (endsHere w a) × T (f (c ∷ w)) = ends-kept f c a w p in (or-left (endsHere w a) (inTrie d w) (r .0), r .1))
+        (λ p. (or-right (endsHere w a) (inTrie d w) (down p .0), down p .1))
+        (or-yes (endsHere w (stays f c a)) (inTrie (keptIn (λ v. f (c ∷ v)) d) w) q)
 
     go : (b : Bool) → eqb c x ≡ b
-        → T (elim b [ true ↦ endsHere w (stays f c a) || holds (kept (λ v. f (c ∷ v)) d) w | false ↦ holds (kept f s) (x ∷ w) ])
-        → (T (holds (kept (λ v. f (c ∷ v)) d) w) → T (holds d w) × T (f (c ∷ w))) → (T (holds (kept f s) (x ∷ w)) → T (holds s (x ∷ w)) × T (f (x ∷ w)))
-        → T (elim b [ true ↦ endsHere w a || holds d w | false ↦ holds s (x ∷ w) ]) × T (f (x ∷ w))
+        → T (elim b [ true ↦ endsHere w (stays f c a) || inTrie (keptIn (λ v. f (c ∷ v)) d) w | false ↦ inTrie (keptIn f s) (x ∷ w) ])
+        → (T (inTrie (keptIn (λ v. f (c ∷ v)) d) w) → T (inTrie d w) × T (f (c ∷ w)))
+        → (T (inTrie (keptIn f s) (x ∷ w)) → T (inTrie s (x ∷ w)) × T (f (x ∷ w)))
+        → T (elim b [ true ↦ endsHere w a || inTrie d w | false ↦ inTrie s (x ∷ w) ]) × T (f (x ∷ w))
     go true e q down aside = (here q down .0, subst (λ (y : ℕ). T (f (y ∷ w))) (eqb-true c x e) (here q down .1))
     go false e q down aside = aside q
 
-pub kept-held : (f : List ℕ → Bool) (t : Trie) (w : List ℕ) → T (holds t w) → T (f w) → T (holds (kept f t) w)
-unfolding holds kept
+pub kept-held : (f : List ℕ → Bool) (t : Trie) (w : List ℕ) → T (inTrie t w) → T (f w) → T (inTrie (keptIn f t) w)
+unfolding inTrie keptIn
 kept-held f none w t h = absurd t
-kept-held f (cell c a d s) [] t h = absurd t
-kept-held f (cell c a d s) (x ∷ w) t h = go (eqb c x) refl t (λ q k. kept-held (λ v. f (c ∷ v)) d w q k) (λ q. kept-held f s (x ∷ w) q h)
+kept-held f (node c a d s) [] t h = absurd t
+kept-held f (node c a d s) (x ∷ w) t h = go (eqb c x) refl t (λ q k. kept-held (λ v. f (c ∷ v)) d w q k) (λ q. kept-held f s (x ∷ w) q h)
   where
-    go : (b : Bool) → eqb c x ≡ b → T (elim b [ true ↦ endsHere w a || holds d w | false ↦ holds s (x ∷ w) ])
-        → (T (holds d w) → T (f (c ∷ w)) → T (holds (kept (λ v. f (c ∷ v)) d) w)) → (T (holds s (x ∷ w)) → T (holds (kept f s) (x ∷ w)))
-        → T (elim b [ true ↦ endsHere w (stays f c a) || holds (kept (λ v. f (c ∷ v)) d) w | false ↦ holds (kept f s) (x ∷ w) ])
+    go : (b : Bool) → eqb c x ≡ b → T (elim b [ true ↦ endsHere w a || inTrie d w | false ↦ inTrie s (x ∷ w) ])
+        → (T (inTrie d w) → T (f (c ∷ w)) → T (inTrie (keptIn (λ v. f (c ∷ v)) d) w))
+        → (T (inTrie s (x ∷ w)) → T (inTrie (keptIn f s) (x ∷ w)))
+        → T (elim b [ true ↦ endsHere w (stays f c a) || inTrie (keptIn (λ v. f (c ∷ v)) d) w | false ↦ inTrie (keptIn f s) (x ∷ w) ])
     go true e q down aside =
         let k : T (f (c ∷ w)) = subst (λ (y : ℕ). T (f (y ∷ w))) (sym (eqb-true c x e)) h in
-        ⊎-elim (λ p. or-left (endsHere w (stays f c a)) (holds (kept (λ v. f (c ∷ v)) d) w) (kept-ends f c a w p k))
-        (λ p. or-right (endsHere w (stays f c a)) (holds (kept (λ v. f (c ∷ v)) d) w) (down p k))
-        (or-yes (endsHere w a) (holds d w) q)
+        ⊎-elim (λ p. or-left (endsHere w (stays f c a)) (inTrie (keptIn (λ v. f (c ∷ v)) d) w) (kept-ends f c a w p k))
+        (λ p. or-right (endsHere w (stays f c a)) (inTrie (keptIn (λ v. f (c ∷ v)) d) w) (down p k))
+        (or-yes (endsHere w a) (inTrie d w) q)
     go false e q down aside = aside q
 
 -- the words of t have P, and those of them that pass f have Q
 pub kept-lists : {P Q : List ℕ → Type 0} {t : Trie} (f : List ℕ → Bool) → Lists P t → ((u : List ℕ) → P u → T (f u) → Q u)
-    → ((u : List ℕ) → Q u → P u × T (f u)) → Lists Q (kept f t)
+    → ((u : List ℕ) → Q u → P u × T (f u)) → Lists Q (keptIn f t)
 kept-lists {t = t} f l to from = record {
   sorted = kept-sorted f t (l .sorted);
-  only = λ u h. let k : T (holds t u) × T (f u) = held-kept f t u h in to u (l .only u (k .0)) (k .1);
+  only = λ u h. let k : T (inTrie t u) × T (f u) = held-kept f t u h in to u (l .only u (k .0)) (k .1);
   all = λ u q. kept-held f t u (l .all u (from u q .0)) (from u q .1);
 }

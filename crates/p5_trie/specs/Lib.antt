@@ -1,3 +1,3 @@
 pub mod Order
-pub mod Trie
+pub mod Mirror
 pub mod Numbering

@@ -1,1 +1,1 @@
-// No code: words in a trie of cells (specs/), and what they are: each once, in dictionary order, numbered (proofs/).
+// No code: words in a trie of nodes (specs/), and what they are: each once, in dictionary order, numbered (proofs/).

@@ -69,7 +69,8 @@ module _ (x : ℕ) where
   unfolding isScalar
   scalar-cases e = go (ltb x 0xd800) (ltb x 0xe000) (ltb x 0x110000) refl refl refl e
     where
-      go : (t u v : Bool) → ltb x 0xd800 ≡ t → ltb x 0xe000 ≡ u → ltb x 0x110000 ≡ v → pick t true (pick u false v) ≡ true → (x < 0xd800) ⊎ ((0xe000 ≤ x) × (x < 0x110000))
+      go : (t u v : Bool) → ltb x 0xd800 ≡ t → ltb x 0xe000 ≡ u → ltb x 0x110000 ≡ v → pick t true (pick u false v) ≡ true
+          → (x < 0xd800) ⊎ ((0xe000 ≤ x) × (x < 0x110000))
       go true u v p q r h = inl (ltb-true x 0xd800 p)
       go false true v p q r h = let z : _≡_ {A = ℕ} 0 1 = cc in absurd (omega arith)
       go false false true p q r h = inr (ltb-false x 0xe000 q, ltb-true x 0x110000 r)

@@ -10,15 +10,17 @@ use lib.ListN.{length, drop, length-append, length-drop}
 use lib.Seq.{drop-drop}
 use borrow.Author.Tests.{ltb-true, ltb-false}
 use Rattle.p0_choice.proofs.Choices.{pick-both}
-use Rattle.p5_utf8.specs.Rfc3629.{isScalar, encode, bits1, bits2, bits3, bits4, _to_, tail, utf8-1, utf8-2, utf8-3, utf8-4, along, begins, charOf, charAt}
+use Rattle.p5_utf8.specs.Rfc3629.{isScalar, encode, bits1, bits2, bits3, bits4, _to_, tail, utf8-1, utf8-2, utf8-3, utf8-4, along}
+use Rattle.p5_utf8.specs.Rfc3629.{begins, charOf, charAt}
 use Rattle.p5_utf8.specs.declared.Char.{Char}
-use Rattle.p5_utf8.specs.declared.Char.the-variants.{Malformed, Scalar}
-use Rattle.p5_utf8.proofs.Grammar.{inside, bounds, tail-inside, tail-bounds, along-cons, from-rule, first, later, along-three, along-four, lead-1, lead-2, lead-3, lead-4}
+use Rattle.p5_utf8.specs.declared.Char.the-variants.{NoChar, Scalar}
+use Rattle.p5_utf8.proofs.Grammar.{inside, bounds, tail-inside, tail-bounds, along-cons, from-rule, first, later, along-three}
+use Rattle.p5_utf8.proofs.Grammar.{along-four, lead-1, lead-2, lead-3, lead-4}
 use Rattle.p5_utf8.proofs.Encode.{row-1, row-2, row-3, row-4, by-row, some-bytes, scalar-low, scalar-high, scalar-cases}
 
 -- ---- what the grammar takes is an encoding
 abbrev Stands : List ℕ → Char → Type 0
-Stands s Malformed = 0 ≤ 0
+Stands s NoChar = 0 ≤ 0
 Stands s (Scalar x w) = (isScalar x ≡ true) × (w ≡ length (encode x)) × (s ≡ encode x ++ drop w s)
 
 stands-1 : (a : ℕ) (s : List ℕ) → a ≤ 0x7f → Stands (a ∷ s) (Scalar a 1)
@@ -65,7 +67,8 @@ along-3 P p q r s f e =
     along-cons (λ (u : List ℕ). P (a ∷ b ∷ u)) r [] s'' e'' (λ c u z _. f a b c u x y z)))
 
 along-4 : (P : List ℕ → Type 0) (o p q r : ℕ → Bool) (s : List ℕ)
-    → ((a b c d : ℕ) (u : List ℕ) → o a ≡ true → p b ≡ true → q c ≡ true → r d ≡ true → P (a ∷ b ∷ c ∷ d ∷ u)) → along (o ∷ p ∷ q ∷ r ∷ []) s ≡ true → P s
+    → ((a b c d : ℕ) (u : List ℕ) → o a ≡ true → p b ≡ true → q c ≡ true → r d ≡ true → P (a ∷ b ∷ c ∷ d ∷ u))
+    → along (o ∷ p ∷ q ∷ r ∷ []) s ≡ true → P s
 along-4 P o p q r s f e =
     along-cons P o (p ∷ q ∷ r ∷ []) s e (λ a s' x e'. along-3 (λ (u : List ℕ). P (a ∷ u)) p q r s' (λ b c d u. f a b c d u x) e')
 
@@ -79,7 +82,8 @@ module _ (s : List ℕ) where
   rule-1 : begins utf8-1 s ≡ true → Stands s (Scalar (bits1 s) 1)
   unfolding utf8-1 bits1
   rule-1 e = from-rule _ utf8-1 s e (
-    λ h. along-cons (λ (u : List ℕ). Stands u (Scalar (bits1 u) 1)) (0x00 to 0x7f) [] s h (λ a u x _. stands-1 a u (bounds 0x00 0x7f a x .1)),
+    λ h. along-cons (λ (u : List ℕ). Stands u (Scalar (bits1 u) 1)) (0x00 to 0x7f) [] s h
+        (λ a u x _. stands-1 a u (bounds 0x00 0x7f a x .1)),
     tt,
   )
 
@@ -97,7 +101,8 @@ module _ (s : List ℕ) where
   rule-3 e = from-rule _ utf8-3 s e (
     along-3 Three (0xe0 to 0xe0) (0xa0 to 0xbf) tail s (λ a b c u x y z.
         let l = bounds 0xe0 0xe0 a x in let m = bounds 0xa0 0xbf b y in let n = tail-bounds c z in
-        stands-3 a b c _ u (omega arith) (omega arith) (tail-inside b (omega arith) (omega arith)) z refl (omega arith) (scalar-low _ (omega arith))),
+        stands-3 a b c _ u (omega arith) (omega arith) (tail-inside b (omega arith) (omega arith)) z refl (omega arith)
+        (scalar-low _ (omega arith))),
     (
       along-3 Three (0xe1 to 0xec) tail tail s (λ a b c u x y z.
           let l = bounds 0xe1 0xec a x in let m = tail-bounds b y in let n = tail-bounds c z in
@@ -105,7 +110,8 @@ module _ (s : List ℕ) where
       (
         along-3 Three (0xed to 0xed) (0x80 to 0x9f) tail s (λ a b c u x y z.
             let l = bounds 0xed 0xed a x in let m = bounds 0x80 0x9f b y in let n = tail-bounds c z in
-            stands-3 a b c _ u (omega arith) (omega arith) (tail-inside b (omega arith) (omega arith)) z refl (omega arith) (scalar-low _ (omega arith))),
+            stands-3 a b c _ u (omega arith) (omega arith) (tail-inside b (omega arith) (omega arith)) z refl (omega arith)
+            (scalar-low _ (omega arith))),
         (
           along-3 Three (0xee to 0xef) tail tail s (λ a b c u x y z.
               let l = bounds 0xee 0xef a x in let m = tail-bounds b y in let n = tail-bounds c z in
@@ -129,7 +135,8 @@ module _ (s : List ℕ) where
       (
         along-4 Four (0xf4 to 0xf4) (0x80 to 0x8f) tail tail s (λ a b c d u x y z v.
             let l = bounds 0xf4 0xf4 a x in let m = bounds 0x80 0x8f b y in let n = tail-bounds c z in let o = tail-bounds d v in
-            stands-4 a b c d _ u (omega arith) (omega arith) (tail-inside b (omega arith) (omega arith)) z v refl (omega arith) (omega arith)),
+            stands-4 a b c d _ u (omega arith) (omega arith) (tail-inside b (omega arith) (omega arith)) z v refl (omega arith)
+            (omega arith)),
         tt,
       ),
     ),
@@ -169,13 +176,18 @@ taken-3 x s l h d = go (ltb x 0x1000) (ltb x 0xd000) refl refl (scalar-cases x d
     go : (t u : Bool) → ltb x 0x1000 ≡ t → ltb x 0xd000 ≡ u → (x < 0xd800) ⊎ ((0xe000 ≤ x) × (x < 0x110000))
         → begins utf8-3 ((0xe0 + x / 4096) ∷ (0x80 + x / 64 % 64) ∷ (0x80 + x % 64) ∷ s) ≡ true
     go true u e f c = let k = ltb-true x 0x1000 e in
-        first _ _ _ (along-three (0xe0 to 0xe0) (0xa0 to 0xbf) tail _ _ _ s (inside 0xe0 0xe0 _ (omega arith) (omega arith)) (inside 0xa0 0xbf _ (omega arith) (omega arith)) c-tail)
+        first _ _ _ (along-three (0xe0 to 0xe0) (0xa0 to 0xbf) tail _ _ _ s (inside 0xe0 0xe0 _ (omega arith) (omega arith))
+        (inside 0xa0 0xbf _ (omega arith) (omega arith)) c-tail)
     go false true e f c = let k = ltb-false x 0x1000 e in let m = ltb-true x 0xd000 f in
-        later _ _ _ (first _ _ _ (along-three (0xe1 to 0xec) tail tail _ _ _ s (inside 0xe1 0xec _ (omega arith) (omega arith)) b-tail c-tail))
+        later _ _ _ (first _ _ _ (along-three (0xe1 to 0xec) tail tail _ _ _ s
+        (inside 0xe1 0xec _ (omega arith) (omega arith)) b-tail c-tail))
     go false false e f (inl k) = let m = ltb-false x 0xd000 f in
-        later _ _ _ (later _ _ _ (first _ _ _ (along-three (0xed to 0xed) (0x80 to 0x9f) tail _ _ _ s (inside 0xed 0xed _ (omega arith) (omega arith)) (inside 0x80 0x9f _ (omega arith) (omega arith)) c-tail)))
+        later _ _ _ (later _ _ _ (first _ _ _
+        (along-three (0xed to 0xed) (0x80 to 0x9f) tail _ _ _ s (inside 0xed 0xed _ (omega arith) (omega arith))
+        (inside 0x80 0x9f _ (omega arith) (omega arith)) c-tail)))
     go false false e f (inr k) =
-        later _ _ _ (later _ _ _ (later _ _ _ (first _ _ _ (along-three (0xee to 0xef) tail tail _ _ _ s (inside 0xee 0xef _ (omega arith) (omega arith)) b-tail c-tail))))
+        later _ _ _ (later _ _ _ (later _ _ _
+        (first _ _ _ (along-three (0xee to 0xef) tail tail _ _ _ s (inside 0xee 0xef _ (omega arith) (omega arith)) b-tail c-tail))))
 
 there-3 : (x : ℕ) (s : List ℕ) → 0x800 ≤ x → x < 0x10000 → isScalar x ≡ true
     → charOf ((0xe0 + x / 4096) ∷ (0x80 + x / 64 % 64) ∷ (0x80 + x % 64) ∷ s) ≡ Scalar x 3
@@ -204,19 +216,25 @@ taken-4 x s l h = go (ltb x 0x40000) (ltb x 0x100000) refl refl
     go : (t u : Bool) → ltb x 0x40000 ≡ t → ltb x 0x100000 ≡ u
         → begins utf8-4 ((0xf0 + x / 262144) ∷ (0x80 + x / 4096 % 64) ∷ (0x80 + x / 64 % 64) ∷ (0x80 + x % 64) ∷ s) ≡ true
     go true u e f = let k = ltb-true x 0x40000 e in
-        first _ _ _ (along-four (0xf0 to 0xf0) (0x90 to 0xbf) tail tail _ _ _ _ s (inside 0xf0 0xf0 _ (omega arith) (omega arith)) (inside 0x90 0xbf _ (omega arith) (omega arith)) (last (x / 64)) (last x))
+        first _ _ _ (along-four (0xf0 to 0xf0) (0x90 to 0xbf) tail tail _ _ _ _ s (inside 0xf0 0xf0 _ (omega arith) (omega arith))
+        (inside 0x90 0xbf _ (omega arith) (omega arith)) (last (x / 64)) (last x))
     go false true e f = let k = ltb-false x 0x40000 e in let m = ltb-true x 0x100000 f in
-        later _ _ _ (first _ _ _ (along-four (0xf1 to 0xf3) tail tail tail _ _ _ _ s (inside 0xf1 0xf3 _ (omega arith) (omega arith)) (last (x / 4096)) (last (x / 64)) (last x)))
+        later _ _ _ (first _ _ _ (along-four (0xf1 to 0xf3) tail tail tail _ _ _ _ s (inside 0xf1 0xf3 _ (omega arith) (omega arith))
+        (last (x / 4096)) (last (x / 64)) (last x)))
     go false false e f = let m = ltb-false x 0x100000 f in
-        later _ _ _ (later _ _ _ (first _ _ _ (along-four (0xf4 to 0xf4) (0x80 to 0x8f) tail tail _ _ _ _ s (inside 0xf4 0xf4 _ (omega arith) (omega arith)) (inside 0x80 0x8f _ (omega arith) (omega arith)) (last (x / 64)) (last x))))
+        later _ _ _ (later _ _ _ (first _ _ _
+        (along-four (0xf4 to 0xf4) (0x80 to 0x8f) tail tail _ _ _ _ s (inside 0xf4 0xf4 _ (omega arith) (omega arith))
+        (inside 0x80 0x8f _ (omega arith) (omega arith)) (last (x / 64)) (last x))))
 
 there-4 : (x : ℕ) (s : List ℕ) → 0x10000 ≤ x → x < 0x110000
     → charOf ((0xf0 + x / 262144) ∷ (0x80 + x / 4096 % 64) ∷ (0x80 + x / 64 % 64) ∷ (0x80 + x % 64) ∷ s) ≡ Scalar x 4
 unfolding bits4
 there-4 x s l h =
-    let v : (0xf0 + x / 262144) % 8 * 262144 + (0x80 + x / 4096 % 64) % 64 * 4096 + (0x80 + x / 64 % 64) % 64 * 64 + (0x80 + x % 64) % 64 ≡ x
+    let v : (0xf0 + x / 262144) % 8 * 262144 + (0x80 + x / 4096 % 64) % 64 * 4096 + (0x80 + x / 64 % 64) % 64 * 64 +
+    (0x80 + x % 64) % 64 ≡ x
     = rw (lead4 x h, low6 (x / 4096), low6 (x / 64), low6 x) (whole4 x) in
-    rw (lead-4 (0xf0 + x / 262144) ((0x80 + x / 4096 % 64) ∷ (0x80 + x / 64 % 64) ∷ (0x80 + x % 64) ∷ s) (omega arith), taken-4 x s l h, v) refl
+    rw (lead-4 (0xf0 + x / 262144) ((0x80 + x / 4096 % 64) ∷ (0x80 + x / 64 % 64) ∷ (0x80 + x % 64) ∷ s) (omega arith), taken-4 x s l h, v)
+    refl
 
 -- ---- the two together, at the start of bytes
 -- bytes that begin with a character begin with the encoding of a scalar value, and the character is that value
@@ -239,7 +257,8 @@ domain x s = (λ d. there x s d, λ e. found (encode x ++ s) x (length (encode x
 -- ---- at a place of bytes
 module _ (s : List ℕ) (i : ℕ) where
   -- the character at a place is a scalar value whose encoding stands there
-  pub found-at : (x w : ℕ) → charAt s i ≡ Scalar x w → (isScalar x ≡ true) × (w ≡ length (encode x)) × (drop i s ≡ encode x ++ drop (i + w) s)
+  pub found-at : (x w : ℕ) → charAt s i ≡ Scalar x w
+      → (isScalar x ≡ true) × (w ≡ length (encode x)) × (drop i s ≡ encode x ++ drop (i + w) s)
   unfolding charAt
   found-at x w e = let h = found (drop i s) x w e in (h .0, h .1, rw (← drop-drop w i s) (h .2))
 
@@ -259,13 +278,14 @@ module _ (s : List ℕ) (i : ℕ) where
   there-at x r d e = rw e (there x r d)
 
   -- a place is malformed exactly if no encoding of a scalar value stands there
-  pub malformed : charAt s i ≡ Malformed ↔ ((x : ℕ) (r : List ℕ) → isScalar x ≡ true → drop i s ≡ encode x ++ r → ⊥)
+  pub malformed : charAt s i ≡ NoChar ↔ ((x : ℕ) (r : List ℕ) → isScalar x ≡ true → drop i s ≡ encode x ++ r → ⊥)
   malformed = (λ e x r d q. let h = there-at x r d q in let z : _≡_ {A = ℕ} 0 1 = cc in omega arith, λ f. go f (charAt s i) refl)
     where
-      go : ((x : ℕ) (r : List ℕ) → isScalar x ≡ true → drop i s ≡ encode x ++ r → ⊥) → (c : Char) → charAt s i ≡ c → c ≡ Malformed
-      go f Malformed e = refl
+      go : ((x : ℕ) (r : List ℕ) → isScalar x ≡ true → drop i s ≡ encode x ++ r → ⊥) → (c : Char) → charAt s i ≡ c → c ≡ NoChar
+      go f NoChar e = refl
       go f (Scalar x w) e = let h = found-at x w e in absurd (f x (drop (i + w) s) (h .0) (h .2))
 
   -- a character stands at a place exactly if it is a scalar value, of its width, whose encoding stands there
-  pub exact : (x w : ℕ) → charAt s i ≡ Scalar x w ↔ ((isScalar x ≡ true) × (w ≡ length (encode x)) × (drop i s ≡ encode x ++ drop (i + w) s))
+  pub exact : (x w : ℕ) → charAt s i ≡ Scalar x w ↔
+      ((isScalar x ≡ true) × (w ≡ length (encode x)) × (drop i s ≡ encode x ++ drop (i + w) s))
   exact x w = (found-at x w, λ h. there-at x (drop (i + w) s) (h .0) (h .2) ∙ ap (Scalar x) (sym (h .1)))

@@ -3,7 +3,7 @@ use mathlib.Core.Path.{_≡_, refl}
 use mathlib.Core.List.{[], _∷_}
 use Rattle.p0_choice.specs.Text.{word}
 use Rattle.p5_utf8.specs.Rfc3629.{encode, encodeAll, _to_, tail, utf8-1, utf8-2, utf8-3, utf8-4, along, begins, charOf}
-use Rattle.p5_utf8.specs.declared.Char.the-variants.{Malformed}
+use Rattle.p5_utf8.specs.declared.Char.the-variants.{NoChar}
 
 pub not-identical-to-alpha : encodeAll (word "A≢Α.") ≡ 0x41 ∷ 0xe2 ∷ 0x89 ∷ 0xa2 ∷ 0xce ∷ 0x91 ∷ 0x2e ∷ []
 unfolding encode word
@@ -22,14 +22,14 @@ unfolding encode
 stump-of-tree = refl
 
 -- overlong U+0000, a surrogate pair written as two characters, and the overlong point of "2F C0 AE 2E 2F"
-pub overlong-zero : charOf (0xc0 ∷ 0x80 ∷ []) ≡ Malformed
+pub overlong-zero : charOf (0xc0 ∷ 0x80 ∷ []) ≡ NoChar
 unfolding charOf utf8-1 utf8-2 utf8-3 utf8-4 begins along tail _to_
 overlong-zero = refl
 
-pub surrogates : charOf (0xed ∷ 0xa1 ∷ 0x8c ∷ 0xed ∷ 0xbe ∷ 0xb4 ∷ []) ≡ Malformed
+pub surrogates : charOf (0xed ∷ 0xa1 ∷ 0x8c ∷ 0xed ∷ 0xbe ∷ 0xb4 ∷ []) ≡ NoChar
 unfolding charOf utf8-1 utf8-2 utf8-3 utf8-4 begins along tail _to_
 surrogates = refl
 
-pub overlong-point : charOf (0xc0 ∷ 0xae ∷ []) ≡ Malformed
+pub overlong-point : charOf (0xc0 ∷ 0xae ∷ []) ≡ NoChar
 unfolding charOf utf8-1 utf8-2 utf8-3 utf8-4 begins along tail _to_
 overlong-point = refl

@@ -9,7 +9,7 @@ use lib.Dec.{ltb, leb}
 use borrow.Author.Tests.{lt-ltb, le-ltb, le-leb, lt-leb, ltb-false, leb-true}
 use Rattle.p0_choice.specs.Choice.{pick}
 use Rattle.p5_utf8.specs.Rfc3629.{_to_, tail, utf8-1, utf8-2, utf8-3, utf8-4, along, begins, bits1, bits2, bits3, bits4, charOf}
-use Rattle.p5_utf8.specs.declared.Char.the-variants.{Malformed, Scalar}
+use Rattle.p5_utf8.specs.declared.Char.the-variants.{NoChar, Scalar}
 
 -- ---- a byte and its range
 pub inside : (low high b : ℕ) → low ≤ b → b ≤ high → (low to high) b ≡ true
@@ -78,11 +78,13 @@ later q qs s e = go (along q s)
     go true = refl
     go false = e
 
-pub along-three : (p q r : ℕ → Bool) (a b c : ℕ) (s : List ℕ) → p a ≡ true → q b ≡ true → r c ≡ true → along (p ∷ q ∷ r ∷ []) (a ∷ b ∷ c ∷ s) ≡ true
+pub along-three : (p q r : ℕ → Bool) (a b c : ℕ) (s : List ℕ) → p a ≡ true → q b ≡ true → r c ≡ true
+    → along (p ∷ q ∷ r ∷ []) (a ∷ b ∷ c ∷ s) ≡ true
 unfolding along
 along-three p q r a b c s e f g = rw (e, f, g) refl
 
-pub along-four : (o p q r : ℕ → Bool) (a b c d : ℕ) (s : List ℕ) → o a ≡ true → p b ≡ true → q c ≡ true → r d ≡ true → along (o ∷ p ∷ q ∷ r ∷ []) (a ∷ b ∷ c ∷ d ∷ s) ≡ true
+pub along-four : (o p q r : ℕ → Bool) (a b c d : ℕ) (s : List ℕ) → o a ≡ true → p b ≡ true → q c ≡ true → r d ≡ true
+    → along (o ∷ p ∷ q ∷ r ∷ []) (a ∷ b ∷ c ∷ d ∷ s) ≡ true
 unfolding along
 along-four o p q r a b c d s e f g h = rw (e, f, g, h) refl
 
@@ -103,15 +105,28 @@ module _ (a : ℕ) (s : List ℕ) where
   not-3 : 0xf0 ≤ a → begins utf8-3 (a ∷ s) ≡ false
   unfolding utf8-3 begins along
   not-3 l =
-      rw (above 0xe0 0xe0 a (omega arith) (omega arith), above 0xe1 0xec a (omega arith) (omega arith), above 0xed 0xed a (omega arith) (omega arith), above 0xee 0xef a (omega arith) (omega arith)) refl
+      rw (
+        above 0xe0 0xe0 a (omega arith) (omega arith),
+        above 0xe1 0xec a (omega arith) (omega arith),
+        above 0xed 0xed a (omega arith)
+            (omega arith),
+        above 0xee 0xef a (omega arith) (omega arith),
+      ) refl
 
   not-3-yet : a < 0xe0 → begins utf8-3 (a ∷ s) ≡ false
   unfolding utf8-3 begins along
-  not-3-yet h = rw (below 0xe0 0xe0 a h, below 0xe1 0xec a (omega arith), below 0xed 0xed a (omega arith), below 0xee 0xef a (omega arith)) refl
+  not-3-yet h = rw (below 0xe0 0xe0 a h, below 0xe1 0xec a (omega arith), below 0xed 0xed a (omega arith), below 0xee 0xef a (omega arith))
+      refl
 
   not-4 : 0xf5 ≤ a → begins utf8-4 (a ∷ s) ≡ false
   unfolding utf8-4 begins along
-  not-4 l = rw (above 0xf0 0xf0 a (omega arith) (omega arith), above 0xf1 0xf3 a (omega arith) (omega arith), above 0xf4 0xf4 a (omega arith) (omega arith)) refl
+  not-4 l =
+      rw (
+        above 0xf0 0xf0 a (omega arith) (omega arith),
+        above 0xf1 0xf3 a (omega arith) (omega arith),
+        above 0xf4 0xf4 a (omega arith)
+            (omega arith),
+      ) refl
 
   not-4-yet : a < 0xf0 → begins utf8-4 (a ∷ s) ≡ false
   unfolding utf8-4 begins along
@@ -121,21 +136,21 @@ module _ (a : ℕ) (s : List ℕ) where
   unfolding charOf utf8-1 begins along bits1
   lead-1 h = rw (inside 0x00 0x7f a (omega arith) (omega arith)) refl
 
-  pub lead-none : 0x80 ≤ a → a < 0xc2 → charOf (a ∷ s) ≡ Malformed
+  pub lead-none : 0x80 ≤ a → a < 0xc2 → charOf (a ∷ s) ≡ NoChar
   unfolding charOf
   lead-none l h = rw (not-1 l, not-2-yet h, not-3-yet (omega arith), not-4-yet (omega arith)) refl
 
-  pub lead-2 : 0xc2 ≤ a → a < 0xe0 → charOf (a ∷ s) ≡ pick (begins utf8-2 (a ∷ s)) (Scalar (bits2 (a ∷ s)) 2) Malformed
+  pub lead-2 : 0xc2 ≤ a → a < 0xe0 → charOf (a ∷ s) ≡ pick (begins utf8-2 (a ∷ s)) (Scalar (bits2 (a ∷ s)) 2) NoChar
   unfolding charOf
   lead-2 l h = rw (not-1 (omega arith), not-3-yet h, not-4-yet (omega arith)) refl
 
-  pub lead-3 : 0xe0 ≤ a → a < 0xf0 → charOf (a ∷ s) ≡ pick (begins utf8-3 (a ∷ s)) (Scalar (bits3 (a ∷ s)) 3) Malformed
+  pub lead-3 : 0xe0 ≤ a → a < 0xf0 → charOf (a ∷ s) ≡ pick (begins utf8-3 (a ∷ s)) (Scalar (bits3 (a ∷ s)) 3) NoChar
   unfolding charOf
   lead-3 l h = rw (not-1 (omega arith), not-2 l, not-4-yet h) refl
 
-  pub lead-4 : 0xf0 ≤ a → charOf (a ∷ s) ≡ pick (begins utf8-4 (a ∷ s)) (Scalar (bits4 (a ∷ s)) 4) Malformed
+  pub lead-4 : 0xf0 ≤ a → charOf (a ∷ s) ≡ pick (begins utf8-4 (a ∷ s)) (Scalar (bits4 (a ∷ s)) 4) NoChar
   unfolding charOf
   lead-4 l = rw (not-1 (omega arith), not-2 (omega arith), not-3 l) refl
 
-  pub lead-past : 0xf5 ≤ a → charOf (a ∷ s) ≡ Malformed
+  pub lead-past : 0xf5 ≤ a → charOf (a ∷ s) ≡ NoChar
   lead-past l = rw (lead-4 (omega arith), not-4 l) refl

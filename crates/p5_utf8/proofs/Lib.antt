@@ -4,3 +4,4 @@ pub mod Encode
 pub mod Exact
 pub mod Putting
 pub mod Examples
+pub mod Only

@@ -12,21 +12,24 @@ use Rattle.p5_utf8.specs.declared.Char.the-variants.{Scalar}
 use Rattle.p5_utf8.proofs.Encode.{row-1, row-2, row-3, row-4, width-1, width-2, width-3, width-4, by-row}
 use Rattle.p5_utf8.proofs.Exact.{there-at}
 
-pub after : (j w n : ℕ) → w ≡ n → j + w ≡ j + n
-after j w n e = ap (λ (k : ℕ). j + k) e
+pub places-after : (j w n : ℕ) → w ≡ n → j + w ≡ j + n
+places-after j w n e = ap (λ (k : ℕ). j + k) e
 
 module _ (o : List ℕ) (j x : ℕ) (r : j + length (encode x) ≤ length o) where
   pub room-1 : j < length o
   room-1 =
-      by-row x (j < length o) (λ h. omega (arith, width-1 x h)) (λ l h. omega (arith, width-2 x l h)) (λ l h. omega (arith, width-3 x l h)) (λ l. omega (arith, width-4 x l))
+      by-row x (j < length o) (λ h. omega (arith, width-1 x h)) (λ l h. omega (arith, width-2 x l h)) (λ l h. omega (arith, width-3 x l h))
+      (λ l. omega (arith, width-4 x l))
 
   pub room-2 : 0x80 ≤ x → j + 1 < length o
   room-2 m =
-      by-row x (j + 1 < length o) (λ h. absurd (omega arith)) (λ l h. omega (arith, width-2 x l h)) (λ l h. omega (arith, width-3 x l h)) (λ l. omega (arith, width-4 x l))
+      by-row x (j + 1 < length o) (λ h. absurd (omega arith)) (λ l h. omega (arith, width-2 x l h)) (λ l h. omega (arith, width-3 x l h))
+      (λ l. omega (arith, width-4 x l))
 
   pub room-3 : 0x800 ≤ x → j + 2 < length o
   room-3 m =
-      by-row x (j + 2 < length o) (λ h. absurd (omega arith)) (λ l h. absurd (omega arith)) (λ l h. omega (arith, width-3 x l h)) (λ l. omega (arith, width-4 x l))
+      by-row x (j + 2 < length o) (λ h. absurd (omega arith)) (λ l h. absurd (omega arith)) (λ l h. omega (arith, width-3 x l h))
+      (λ l. omega (arith, width-4 x l))
 
   pub room-4 : 0x10000 ≤ x → j + 3 < length o
   room-4 l = omega (arith, width-4 x l)
@@ -46,7 +49,8 @@ module _ (o : List ℕ) (j x : ℕ) (r : j + length (encode x) ≤ length o) whe
   put-3 l h =
       let e : j + 2 ≡ suc (suc j) = omega arith in
       rw (← row-3 x l h, add-one j)
-      (rw e (sets-eq ((0xe0 + x / 4096) ∷ (0x80 + x / 64 % 64) ∷ (0x80 + x % 64) ∷ []) o j (omega (arith, width-3 x l h)) ∙ append-assoc (take j o) _ (drop (j + 3) o)))
+      (rw e (sets-eq ((0xe0 + x / 4096) ∷ (0x80 + x / 64 % 64) ∷ (0x80 + x % 64) ∷ []) o j (omega (arith, width-3 x l h))
+      ∙ append-assoc (take j o) _ (drop (j + 3) o)))
 
   pub put-4 : 0x10000 ≤ x
       → set (set (set (set o j (0xf0 + x / 262144)) (j + 1) (0x80 + x / 4096 % 64)) (j + 2) (0x80 + x / 64 % 64)) (j + 3) (0x80 + x % 64)
@@ -67,4 +71,4 @@ module _ (o : List ℕ) (j x : ℕ) (r : j + length (encode x) ≤ length o) whe
 
 pub ruleset rooms = (room-1, room-2, room-3, room-4, lt-length-set)
 
-pub ruleset rows = (after, width-1, width-2, width-3, width-4, put-1, put-2, put-3, put-4, put-read)
+pub ruleset rows = (places-after, width-1, width-2, width-3, width-4, put-1, put-2, put-3, put-4, put-read)

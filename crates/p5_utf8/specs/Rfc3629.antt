@@ -7,7 +7,7 @@ use lib.Dec.{ltb, leb}
 use lib.ListN.{getD, drop}
 use Rattle.p0_choice.specs.Choice.{pick}
 use Rattle.p5_utf8.specs.declared.Char.{Char}
-use Rattle.p5_utf8.specs.declared.Char.the-variants.{Malformed, Scalar}
+use Rattle.p5_utf8.specs.declared.Char.the-variants.{NoChar, Scalar}
 
 infix 50 _to_
 -- Section 3: "The definition of UTF-8 prohibits encoding character numbers between U+D800 and U+DFFF"; characters are
@@ -96,7 +96,7 @@ charOf s =
     pick (begins utf8-1 s) (Scalar (bits1 s) 1)
     (pick (begins utf8-2 s) (Scalar (bits2 s) 2)
     (pick (begins utf8-3 s) (Scalar (bits3 s) 3)
-    (pick (begins utf8-4 s) (Scalar (bits4 s) 4) Malformed)))
+    (pick (begins utf8-4 s) (Scalar (bits4 s) 4) NoChar)))
 
 -- the character at a place of the bytes
 unfoldable pub charAt : List ℕ → ℕ → Char

@@ -1,5 +1,5 @@
 // UTF-8 by RFC 3629, for all of Unicode: the character at a place of bytes, and the bytes of a code point. The reader and
-// the writer over document 01's alphabet are p5_utf8_read and p5_utf8_write.
+// the writer over document 01's alphabet are p5_utf8_text.
 ghost use mathlib.Core.Path.{_≡_};
 ghost use mathlib.Core.Bool.{true};
 ghost use mathlib.Core.List.{[], _∷_, _++_};
@@ -9,7 +9,7 @@ ghost use Rattle.p5_utf8.specs.Rfc3629.{isScalar, encode, _to_, tail, ut
 
 // What stands at a place of bytes: a Unicode scalar value and the number of its bytes, or no character.
 pub enum Char {
-    Malformed,
+    NoChar,
     Scalar(u32, usize),
 }
 
@@ -70,7 +70,7 @@ fn two(a: u8, b: u8) -> Char
     ensures { λ r. ⌜ r ≡ charOf (a ∷ b ∷ []) ⌝ }
 {
     if !is_tail(b) {
-        return Char::Malformed;
+        return Char::NoChar;
     }
     Char::Scalar((a as u32) % 32 * 64 + (b as u32) % 64, 2)
 }
@@ -80,7 +80,7 @@ fn three(a: u8, b: u8, c: u8) -> Char
     ensures { λ r. ⌜ r ≡ charOf (a ∷ b ∷ c ∷ []) ⌝ }
 {
     if !is_three(a, b, c) {
-        return Char::Malformed;
+        return Char::NoChar;
     }
     Char::Scalar(
         (a as u32) % 16 * 4096 + (b as u32) % 64 * 64 + (c as u32) % 64,
@@ -93,7 +93,7 @@ fn four(a: u8, b: u8, c: u8, d: u8) -> Char
     ensures { λ r. ⌜ r ≡ charOf (a ∷ b ∷ c ∷ d ∷ []) ⌝ }
 {
     if !is_four(a, b, c, d) {
-        return Char::Malformed;
+        return Char::NoChar;
     }
     Char::Scalar(
         (a as u32) % 8 * 262144 + (b as u32) % 64 * 4096 + (c as u32) % 64 * 64 + (d as u32) % 64,
@@ -117,14 +117,14 @@ pub fn char_at(s: &[u8], i: usize) -> Char
     ensures { λ r. ⌜ r ≡ charAt (now (s .entry)) i ⌝ }
 {
     if s.len() <= i {
-        return Char::Malformed;
+        return Char::NoChar;
     }
     let a = s[i];
     if a < 0x80 {
         return Char::Scalar(a as u32, 1);
     }
     if a < 0xc2 {
-        return Char::Malformed;
+        return Char::NoChar;
     }
     let b = byte(s, i, 1);
     if a < 0xe0 {
@@ -138,7 +138,7 @@ pub fn char_at(s: &[u8], i: usize) -> Char
     if a < 0xf5 {
         return four(a, b, c, d);
     }
-    Char::Malformed
+    Char::NoChar
 }
 
 // How many bytes a code point has.

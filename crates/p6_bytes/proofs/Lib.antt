@@ -4,3 +4,4 @@ pub mod Sound
 pub mod Writing
 pub mod Round
 pub mod Fields
+pub mod Only

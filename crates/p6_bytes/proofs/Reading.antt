@@ -11,10 +11,11 @@ use Rattle.p2_input_method.specs.declared.InputMethod.the-variants.{Telex, Vni}
 use Rattle.p3_cells.specs.declared.Mode.the-variants.{Vietnamese, English}
 use Rattle.p3_cells.specs.Cells.{limit, blank, blanks}
 use Rattle.p3_cells.specs.declared.Cell.{Cell}
-use Rattle.p6_bytes.specs.Bytes.{head, start, byteAt, cellAt, cellsAt, methodOf, modeOf, compositionOf}
+use Rattle.p6_bytes.specs.Bytes.{head, start, byteAt, cellAt, cellsAt, methodOf, modeOf}
 
 -- what stands at the eight places is the cell
-pub cell-read : (b : List ℕ) (at base mark : ℕ) → base ≡ byteAt b at + byteAt b (at + 1) * 256 + byteAt b (at + 2) * 65536 + byteAt b (at + 3) * 16777216
+pub cell-read : (b : List ℕ) (at base mark : ℕ)
+    → base ≡ byteAt b at + byteAt b (at + 1) * 256 + byteAt b (at + 2) * 65536 + byteAt b (at + 3) * 16777216
     → mark ≡ byteAt b (at + 4) + byteAt b (at + 5) * 256
     → record { base = base; mark = mark; tone = byteAt b (at + 6); upper = eqb (byteAt b (at + 7)) 1 } ≡ cellAt b at
 unfolding cellAt
@@ -24,15 +25,11 @@ pub cells-length : (n : ℕ) (b : List ℕ) (at : ℕ) → length (cellsAt n b a
 cells-length zero b at = refl
 cells-length (suc n) b at = ap suc (cells-length n b (at + 8))
 
--- what is read has all its places
-pub read-full : (b : List ℕ) → length (compositionOf b .cells) ≡ limit
-unfolding compositionOf
-read-full b = cells-length limit b head
-
 pub cells-at : (n : ℕ) (b : List ℕ) (at i : ℕ) → i < n → getD (cellsAt n b at) i blank ≡ cellAt b (at + 8 * i)
 cells-at zero b at i h = absurd (omega arith)
 cells-at (suc n) b at zero h = let e : at ≡ at + 8 * 0 = omega arith in ap (cellAt b) e
-cells-at (suc n) b at (suc i) h = let e : at + 8 + 8 * i ≡ at + 8 * suc i = omega arith in cells-at n b (at + 8) i (omega arith) ∙ ap (cellAt b) e
+cells-at (suc n) b at (suc i) h = let e : at + 8 + 8 * i ≡ at + 8 * suc i = omega arith in
+    cells-at n b (at + 8) i (omega arith) ∙ ap (cellAt b) e
 
 -- one cell more
 cells-more : (n : ℕ) (b : List ℕ) (at : ℕ) → cellsAt (n + 1) b at ≡ cellsAt n b at ++ (cellAt b (at + 8 * n) ∷ [])
@@ -46,16 +43,19 @@ cells-more (suc n) b at =
 pub cells-start : (b : List ℕ) (z : Cell) → z ≡ blank → replicate limit z ≡ cellsAt 0 b head ++ blanks (limit - 0)
 cells-start b z e = rw e refl
 
-pub cells-on : (b : List ℕ) (xs : List Cell) (i n : ℕ) (x : Cell) → xs ≡ cellsAt i b head ++ blanks (limit - i) → i < n → n ≤ limit → x ≡ cellAt b (start i)
+pub cells-on : (b : List ℕ) (xs : List Cell) (i n : ℕ) (x : Cell) → xs ≡ cellsAt i b head ++ blanks (limit - i) → i < n → n ≤ limit
+    → x ≡ cellAt b (start i)
     → set xs i x ≡ cellsAt (i + 1) b head ++ blanks (limit - (i + 1))
 cells-on b xs i n x e h l p =
     let d : limit - i ≡ suc (limit - (i + 1)) = omega arith in
-    let s : set xs i x ≡ cellsAt i b head ++ (x ∷ blanks (limit - (i + 1))) = rw (e, d) (set-at (cellsAt i b head) blank (blanks (limit - (i + 1))) x i (cells-length i b head)) in
+    let s : set xs i x ≡ cellsAt i b head ++ (x ∷ blanks (limit - (i + 1))) =
+    rw (e, d) (set-at (cellsAt i b head) blank (blanks (limit - (i + 1))) x i (cells-length i b head)) in
     let m : cellsAt (i + 1) b head ++ blanks (limit - (i + 1)) ≡ cellsAt i b head ++ (x ∷ blanks (limit - (i + 1)))
     = rw (cells-more i b head, p) (append-assoc (cellsAt i b head) (cellAt b (start i) ∷ []) (blanks (limit - (i + 1)))) in
     s ∙ sym m
 
-pub cells-done : (b : List ℕ) (xs : List Cell) (i n : ℕ) → xs ≡ cellsAt i b head ++ blanks (limit - i) → i ≤ n → n ≤ i → xs ≡ cellsAt n b head ++ blanks (limit - n)
+pub cells-done : (b : List ℕ) (xs : List Cell) (i n : ℕ) → xs ≡ cellsAt i b head ++ blanks (limit - i) → i ≤ n → n ≤ i
+    → xs ≡ cellsAt n b head ++ blanks (limit - n)
 cells-done b xs i n e l h = let z : i ≡ n = omega arith in rw z at e
 
 -- ---- method and mode

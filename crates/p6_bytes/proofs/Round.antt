@@ -1,6 +1,5 @@
 -- What is written is read back, and what is read of sound bytes is written back: a sound composition has one form only, and
--- sound bytes are the form of one. A composition of specs/ may have a list of any length, and bytes of specs/ may be any
--- numbers; that the array has all its places, and that a byte is below 256, are premises.
+-- sound bytes are the form of one. Bytes of specs/ may be any numbers; that a byte is below 256 is a premise.
 use Prim.Native.Nat.{ℕ, zero, suc, _+_, _*_, _-_, _/_, _%_, _≤_, _<_}
 use mathlib.Core.Path.{_≡_, refl, sym, ap, _∙_}
 use mathlib.Core.Bool.{Bool, true, false}
@@ -18,7 +17,10 @@ use Rattle.p3_cells.specs.declared.Composition.{Composition}
 use Rattle.p3_cells.specs.declared.Mode.{Mode}
 use Rattle.p3_cells.specs.declared.Mode.the-variants.{Vietnamese, English}
 use Rattle.p0_choice.proofs.Tests.{each-from}
-use Rattle.p6_bytes.specs.Bytes.{head, known, size, methodByte, modeByte, flagByte, cellBytes, cellsBytes, zeros, headBytes, bytesOf, byteAt, cellAt, cellsAt, methodOf, modeOf, compositionOf, spellsCell, isZero, reservedZero, bytesSound}
+use Rattle.p3_cells.proofs.Soundness.{sound-length}
+use Rattle.p6_bytes.specs.Bytes.{head, known, size, methodByte, modeByte, flagByte, cellBytes, cellsBytes, zeros, headBytes, bytesOf}
+use Rattle.p6_bytes.specs.Bytes.{byteAt, cellAt, cellsAt, methodOf, modeOf, compositionOf, spellsCell, isZero, reservedZero}
+use Rattle.p6_bytes.specs.Bytes.{bytesSound}
 use Rattle.p6_bytes.proofs.Writing.{cell-length, bytes-length}
 use Rattle.p6_bytes.proofs.Sound.{sound-size, sound-method, sound-mode, sound-reserved, sound-flag}
 
@@ -57,7 +59,20 @@ module _ (p : List ℕ) (x : Cell) (r : List ℕ) (n : ℕ) (e : length p ≡ n)
   cell-back =
       let z : n + 0 ≡ n = omega arith in
       let b0 : byteAt (p ++ (cellBytes x ++ r)) n ≡ x .base % 256 = rw z at (byte-back 0) in
-      rw (b0, byte-back 1, byte-back 2, byte-back 3, byte-back 4, byte-back 5, byte-back 6, byte-back 7, four-back (x .base), two-back (x .mark), flag-back (x .upper)) refl
+      rw (
+        b0,
+        byte-back 1,
+        byte-back 2,
+        byte-back 3,
+        byte-back 4,
+        byte-back 5,
+        byte-back 6,
+        byte-back 7,
+        four-back (x .base),
+        two-back
+            (x .mark),
+        flag-back (x .upper),
+      ) refl
 
   flag-there : byteAt (p ++ (cellBytes x ++ r)) (n + 7) ≤ 1
   unfolding cellBytes
@@ -71,7 +86,8 @@ cells-back p (x ∷ xs) n e =
     = rw (← append-assoc p (cellBytes x) (cellsBytes xs)) (cells-back (p ++ cellBytes x) xs (n + 8) l) in
     rw (cell-back p x (cellsBytes xs) n e, h)
 
-flags-back : (p : List ℕ) (xs : List Cell) (n : ℕ) → length p ≡ n → (i : ℕ) → i < length xs → byteAt (p ++ cellsBytes xs) (n + 8 * i + 7) ≤ 1
+flags-back : (p : List ℕ) (xs : List Cell) (n : ℕ) → length p ≡ n → (i : ℕ) → i < length xs
+    → byteAt (p ++ cellsBytes xs) (n + 8 * i + 7) ≤ 1
 flags-back p [] n e i h = absurd (omega arith)
 flags-back p (x ∷ xs) n e zero h = let z : n + 8 * 0 + 7 ≡ n + 7 = omega arith in rw z (flag-there p x (cellsBytes xs) n e)
 flags-back p (x ∷ xs) n e (suc i) h =
@@ -79,13 +95,14 @@ flags-back p (x ∷ xs) n e (suc i) h =
     let z : n + 8 * suc i + 7 ≡ n + 8 + 8 * i + 7 = omega arith in
     rw (z, ← append-assoc p (cellBytes x) (cellsBytes xs)) (flags-back (p ++ cellBytes x) xs (n + 8) l i (omega arith))
 
-module _ (c : Composition) (n : length (c .cells) ≡ limit) where
-  pub read-written : compositionOf (bytesOf c) ≡ c
-  unfolding bytesOf headBytes compositionOf
-  read-written =
-      let k : cellsAt limit (bytesOf c) head ≡ c .cells = rw n at (cells-back (headBytes c) (c .cells) head refl) in
-      rw (k, method-back (c .method), mode-back (c .mode)) refl
+-- sound or not, with all its places
+pub read-written : (c : Composition) → length (c .cells) ≡ limit → compositionOf (bytesOf c) ≡ c
+unfolding bytesOf headBytes compositionOf
+read-written c n =
+    let k : cellsAt limit (bytesOf c) head ≡ c .cells = rw n at (cells-back (headBytes c) (c .cells) head refl) in
+    rw (k, method-back (c .method), mode-back (c .mode)) refl
 
+module _ (c : Composition) where
   method-small : methodByte (c .method) ≤ 1
   method-small = go (c .method)
     where
@@ -104,6 +121,7 @@ module _ (c : Composition) (n : length (c .cells) ≡ limit) where
   pub written-sound : isSound c ≡ true → bytesSound (bytesOf c) ≡ true
   unfolding bytesSound bytesOf headBytes reservedZero isZero spellsCell
   written-sound s =
+      let n = sound-length c s in
       let l : length (bytesOf c) ≡ size = omega (arith, bytes-length (c .cells)) in
       rw (
         eq-eqb (length (bytesOf c)) size l,
@@ -111,7 +129,7 @@ module _ (c : Composition) (n : length (c .cells) ≡ limit) where
         le-leb (modeByte (c .mode)) 1 mode-small,
         each-from (spellsCell (bytesOf c)) limit 0 (λ i k h. le-leb _ 1 (flags-back (headBytes c) (c .cells) head refl i (omega arith))),
       )
-      (rw read-written s)
+      (rw (read-written c n) s)
 
 -- ---- written back
 flag-forth : (x : ℕ) → x ≤ 1 → flagByte (eqb x 1) ≡ x
@@ -153,7 +171,8 @@ module _ (a b : ℕ) (ha : a < 256) where
 
 eight : (s : List ℕ) (at : ℕ) → at + 8 ≤ length s
     → take 8 (drop at s)
-    ≡ byteAt s at ∷ byteAt s (at + 1) ∷ byteAt s (at + 2) ∷ byteAt s (at + 3) ∷ byteAt s (at + 4) ∷ byteAt s (at + 5) ∷ byteAt s (at + 6) ∷ byteAt s (at + 7) ∷ []
+    ≡ byteAt s at ∷ byteAt s (at + 1) ∷ byteAt s (at + 2) ∷ byteAt s (at + 3) ∷ byteAt s (at + 4) ∷ byteAt s (at + 5) ∷ byteAt s (at + 6)
+    ∷ byteAt s (at + 7) ∷ []
 eight s at h =
     let e1 : at + 1 ≡ suc at = omega arith in
     let e2 : at + 2 ≡ suc (suc at) = omega arith in
@@ -184,42 +203,58 @@ module _ (b : List ℕ) (bytes : (k : ℕ) → byteAt b k < 256) where
   cell-forth : (at : ℕ) → at + 8 ≤ length b → byteAt b (at + 7) ≤ 1 → cellBytes (cellAt b at) ≡ take 8 (drop at b)
   unfolding cellBytes cellAt
   cell-forth at h f =
-      let p0 = four-0 (byteAt b at) (byteAt b (at + 1)) (byteAt b (at + 2)) (byteAt b (at + 3)) (bytes at) (bytes (at + 1)) (bytes (at + 2)) (bytes (at + 3)) in
-      let p1 = four-1 (byteAt b at) (byteAt b (at + 1)) (byteAt b (at + 2)) (byteAt b (at + 3)) (bytes at) (bytes (at + 1)) (bytes (at + 2)) (bytes (at + 3)) in
-      let p2 = four-2 (byteAt b at) (byteAt b (at + 1)) (byteAt b (at + 2)) (byteAt b (at + 3)) (bytes at) (bytes (at + 1)) (bytes (at + 2)) (bytes (at + 3)) in
-      let p3 = four-3 (byteAt b at) (byteAt b (at + 1)) (byteAt b (at + 2)) (byteAt b (at + 3)) (bytes at) (bytes (at + 1)) (bytes (at + 2)) (bytes (at + 3)) in
+      let p0 = four-0 (byteAt b at) (byteAt b (at + 1)) (byteAt b (at + 2)) (byteAt b (at + 3)) (bytes at) (bytes (at + 1)) (bytes (at + 2))
+      (bytes (at + 3)) in
+      let p1 = four-1 (byteAt b at) (byteAt b (at + 1)) (byteAt b (at + 2)) (byteAt b (at + 3)) (bytes at) (bytes (at + 1)) (bytes (at + 2))
+      (bytes (at + 3)) in
+      let p2 = four-2 (byteAt b at) (byteAt b (at + 1)) (byteAt b (at + 2)) (byteAt b (at + 3)) (bytes at) (bytes (at + 1)) (bytes (at + 2))
+      (bytes (at + 3)) in
+      let p3 = four-3 (byteAt b at) (byteAt b (at + 1)) (byteAt b (at + 2)) (byteAt b (at + 3)) (bytes at) (bytes (at + 1)) (bytes (at + 2))
+      (bytes (at + 3)) in
       let q0 = two-0 (byteAt b (at + 4)) (byteAt b (at + 5)) (bytes (at + 4)) in
       let q1 = two-1 (byteAt b (at + 4)) (byteAt b (at + 5)) (bytes (at + 4)) in
       rw (p0, p1, p2, p3, q0, q1, flag-forth (byteAt b (at + 7)) f) (sym (eight b at h))
 
-  cells-forth : (n at : ℕ) → at + 8 * n ≤ length b → ((i : ℕ) → i < n → byteAt b (at + 8 * i + 7) ≤ 1) → cellsBytes (cellsAt n b at) ≡ take (8 * n) (drop at b)
+  cells-forth : (n at : ℕ) → at + 8 * n ≤ length b → ((i : ℕ) → i < n → byteAt b (at + 8 * i + 7) ≤ 1)
+      → cellsBytes (cellsAt n b at) ≡ take (8 * n) (drop at b)
   cells-forth zero at h f = refl
   cells-forth (suc n) at h f =
       let e : 8 * suc n ≡ 8 + 8 * n = omega arith in
       let z : at + 8 * 0 + 7 ≡ at + 7 = omega arith in
       let a : cellBytes (cellAt b at) ≡ take 8 (drop at b) = cell-forth at (omega arith) (rw z at (f 0 (omega arith))) in
       let r : cellsBytes (cellsAt n b (at + 8)) ≡ take (8 * n) (drop (at + 8) b)
-      = cells-forth n (at + 8) (omega arith) (λ i l. let y : at + 8 + 8 * i + 7 ≡ at + 8 * suc i + 7 = omega arith in rw y (f (suc i) (omega arith))) in
+      = cells-forth n (at + 8) (omega arith)
+      (λ i l. let y : at + 8 + 8 * i + 7 ≡ at + 8 * suc i + 7 = omega arith in rw y (f (suc i) (omega arith))) in
       let w : take (8 + 8 * n) (drop at b) ≡ take 8 (drop at b) ++ take (8 * n) (drop 8 (drop at b)) = take-add 8 (8 * n) (drop at b) in
       let q : drop 8 (drop at b) ≡ drop (at + 8) b = drop-drop 8 at b in
       let x : cellBytes (cellAt b at) ++ cellsBytes (cellsAt n b (at + 8)) ≡ take 8 (drop at b) ++ take (8 * n) (drop (at + 8) b) = cc in
-      let y : take 8 (drop at b) ++ take (8 * n) (drop 8 (drop at b)) ≡ take 8 (drop at b) ++ take (8 * n) (drop (at + 8) b) = ap (λ (l : List ℕ). take 8 (drop at b) ++ take (8 * n) l) q in
+      let y : take 8 (drop at b) ++ take (8 * n) (drop 8 (drop at b)) ≡ take 8 (drop at b) ++ take (8 * n) (drop (at + 8) b) =
+      ap (λ (l : List ℕ). take 8 (drop at b) ++ take (8 * n) l) q in
       x ∙ sym y ∙ sym w ∙ ap (λ (k : ℕ). take k (drop at b)) (sym e)
 
   pub written-back : bytesSound b ≡ true → bytesOf (compositionOf b) ≡ b
   unfolding bytesOf headBytes compositionOf spellsCell
   written-back s =
       let l = sound-size b s in
-      let c : cellsBytes (cellsAt limit b head) ≡ take (8 * limit) (drop head b) = cells-forth limit head (omega arith) (λ i h. leb-true _ 1 (sound-flag b s i h)) in
+      let c : cellsBytes (cellsAt limit b head) ≡ take (8 * limit) (drop head b) =
+      cells-forth limit head (omega arith) (λ i h. leb-true _ 1 (sound-flag b s i h)) in
       let a : take (8 * limit) (drop head b) ≡ drop head b = take-all (8 * limit) (drop head b) (omega (arith, length-drop head b)) in
       let h : take head b ≡ byteAt b 0 ∷ byteAt b 1 ∷ byteAt b 2 ∷ zeros (head - known)
-      = eight b 0 (omega arith) ∙ rw (free 3 (omega arith) (omega arith), free 4 (omega arith) (omega arith), free 5 (omega arith) (omega arith), free 6 (omega arith) (omega arith), free 7 (omega arith) (omega arith)) refl in
-      let whole : (byteAt b 0 ∷ byteAt b 1 ∷ byteAt b 2 ∷ zeros (head - known)) ++ drop head b ≡ b = ap (λ (t : List ℕ). t ++ drop head b) (sym h) ∙ take-append-drop head b in
+      = eight b 0 (omega arith) ∙ rw (
+        free 3 (omega arith) (omega arith),
+        free 4 (omega arith) (omega arith),
+        free 5 (omega arith)
+            (omega arith),
+        free 6 (omega arith) (omega arith),
+        free 7 (omega arith) (omega arith),
+      ) refl in
+      let whole : (byteAt b 0 ∷ byteAt b 1 ∷ byteAt b 2 ∷ zeros (head - known)) ++ drop head b ≡ b =
+      ap (λ (t : List ℕ). t ++ drop head b) (sym h) ∙ take-append-drop head b in
       rw (method-forth (byteAt b 0) (sound-method b s), mode-forth (byteAt b 1) (sound-mode b s), c, a) whole
     where
       free : (i : ℕ) → known ≤ i → i < head → byteAt b i ≡ 0
       free = sound-reserved b s
 
 -- ---- one form only
-pub one-form : (c d : Composition) → length (c .cells) ≡ limit → length (d .cells) ≡ limit → bytesOf c ≡ bytesOf d → c ≡ d
-one-form c d m n e = sym (read-written c m) ∙ ap compositionOf e ∙ read-written d n
+pub one-spelling : (c d : Composition) → length (c .cells) ≡ limit → length (d .cells) ≡ limit → bytesOf c ≡ bytesOf d → c ≡ d
+one-spelling c d m n e = sym (read-written c m) ∙ ap compositionOf e ∙ read-written d n

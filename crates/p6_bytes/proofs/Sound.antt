@@ -10,7 +10,7 @@ use lib.Dec.{eqb, leb}
 use lib.ListN.{length, getD, length-append, List·getD-append}
 use lib.Seq.{ext-getD, getD-append-add}
 use borrow.Author.Tests.{eq-eqb, eqb-true, eqb-false, le-leb, leb-true, not-true, not-false}
-use Rattle.p0_choice.specs.Choice.{each, count as from}
+use Rattle.p0_choice.specs.Choice.{each, from}
 use Rattle.p0_choice.proofs.Tables.{each-count}
 use Rattle.p0_choice.proofs.Arms.{not-yes}
 use Rattle.p3_cells.specs.Cells.{limit, blank, blanks, isCell, isSound}
@@ -18,21 +18,17 @@ use Rattle.p3_cells.specs.Soundness.{Sound}
 use Rattle.p3_cells.specs.declared.Cell.{Cell}
 use Rattle.p2_input_method.specs.declared.InputMethod.{InputMethod}
 use Rattle.p3_cells.specs.declared.Mode.{Mode}
-use Rattle.p3_cells.proofs.Holding.{length-blanks}
+use Rattle.p3_cells.proofs.Holding.{length-blanks, blanks-at}
 use Rattle.p0_choice.proofs.Numbers.{below-or-not}
 use Rattle.p0_choice.proofs.Tests.{both-are, are-both, holds, each-from}
 use Rattle.p3_cells.proofs.Soundness.{sound-is, is-sound, cell-is, is-cell}
-use Rattle.p6_bytes.specs.Bytes.{head, known, start, size, byteAt, cellAt, cellsAt, methodOf, modeOf, compositionOf, spellsCell, isZero, reservedZero, bytesSound}
-use Rattle.p6_bytes.specs.Parts.{cellFits, cellsFit, zeroFrom}
+use Rattle.p6_bytes.specs.Bytes.{head, known, start, size, byteAt, cellAt, cellsAt, methodOf, modeOf, compositionOf, spellsCell}
+use Rattle.p6_bytes.specs.Bytes.{isZero, reservedZero, bytesSound}
+use Rattle.p6_bytes.specs.Mirror.{cellFits, cellsFit, zeroFrom}
 use Rattle.p6_bytes.proofs.Reading.{cells-length, cells-at}
 
 each-is : (p : ℕ → Bool) (n i : ℕ) → each p (from n i) ≡ true → (j : ℕ) → i ≤ j → j < i + n → p j ≡ true
 each-is p n i e = each-count p n i (holds (each p (from n i)) e)
-
-blanks-at : (n i : ℕ) → getD (blanks n) i blank ≡ blank
-blanks-at zero i = refl
-blanks-at (suc n) zero = refl
-blanks-at (suc n) (suc i) = blanks-at n i
 
 -- ---- eight bytes
 flag-zero : (f : ℕ) → f ≤ 1 → eqb f 1 ≡ false → f ≡ 0
@@ -43,10 +39,12 @@ module _ (b : List ℕ) (i : ℕ) where
   blank-zero : leb (byteAt b (start i + 7)) 1 ≡ true → cellAt b (start i) ≡ blank → (j : ℕ) → j < 8 → byteAt b (start i + j) ≡ 0
   unfolding cellAt
   blank-zero l e =
-      let p : byteAt b (start i) + byteAt b (start i + 1) * 256 + byteAt b (start i + 2) * 65536 + byteAt b (start i + 3) * 16777216 ≡ 0 = ap (λ (x : Cell). x .base) e in
+      let p : byteAt b (start i) + byteAt b (start i + 1) * 256 + byteAt b (start i + 2) * 65536 + byteAt b (start i + 3) * 16777216 ≡ 0 =
+      ap (λ (x : Cell). x .base) e in
       let q : byteAt b (start i + 4) + byteAt b (start i + 5) * 256 ≡ 0 = ap (λ (x : Cell). x .mark) e in
       let t : byteAt b (start i + 6) ≡ 0 = ap (λ (x : Cell). x .tone) e in
-      let f : byteAt b (start i + 7) ≡ 0 = flag-zero (byteAt b (start i + 7)) (leb-true (byteAt b (start i + 7)) 1 l) (ap (λ (x : Cell). x .upper) e) in
+      let f : byteAt b (start i + 7) ≡ 0 =
+      flag-zero (byteAt b (start i + 7)) (leb-true (byteAt b (start i + 7)) 1 l) (ap (λ (x : Cell). x .upper) e) in
       go p q t f
     where
       go : byteAt b (start i) + byteAt b (start i + 1) * 256 + byteAt b (start i + 2) * 65536 + byteAt b (start i + 3) * 16777216 ≡ 0
@@ -68,7 +66,17 @@ module _ (b : List ℕ) (i : ℕ) where
   zero-blank f =
       let z : start i + 0 ≡ start i = omega arith in
       let a : byteAt b (start i) ≡ 0 = rw z at (f 0 (omega arith)) in
-      rw (a, f 1 (omega arith), f 2 (omega arith), f 3 (omega arith), f 4 (omega arith), f 5 (omega arith), f 6 (omega arith), f 7 (omega arith)) refl
+      rw (
+        a,
+        f 1 (omega arith),
+        f 2 (omega arith),
+        f 3 (omega arith),
+        f 4 (omega arith),
+        f 5 (omega arith),
+        f 6 (omega arith),
+        f 7
+            (omega arith),
+      ) refl
 
   zero-flag : byteAt b (start i + 7) ≡ 0 → spellsCell b i ≡ true
   unfolding spellsCell
@@ -76,7 +84,8 @@ module _ (b : List ℕ) (i : ℕ) where
 
 -- ---- what sound bytes hold
 module _ (b : List ℕ) (s : bytesSound b ≡ true) where
-  tests : (length b ≡ size) × (byteAt b 0 ≤ 1) × (byteAt b 1 ≤ 1) × (reservedZero b ≡ true) × (each (spellsCell b) (from limit 0) ≡ true) × (isSound (compositionOf b) ≡ true)
+  tests : (length b ≡ size) × (byteAt b 0 ≤ 1) × (byteAt b 1 ≤ 1) × (reservedZero b ≡ true) × (each (spellsCell b) (from limit 0) ≡ true) ×
+      (isSound (compositionOf b) ≡ true)
   unfolding bytesSound
   tests =
       let t0 = both-are (eqb (length b) size) _ s in
@@ -126,7 +135,8 @@ module _ (b : List ℕ) (s : bytesSound b ≡ true) where
   unfolding cellsFit cellFits
   sound-cells =
       let n = sound-count in
-      each-from (cellFits b) (byteAt b 2) 0 (λ i l h. are-both (spellsCell b i) (isCell (cellAt b (start i))) (sound-flag i (omega arith)) (cell-used i (omega arith)))
+      each-from (cellFits b) (byteAt b 2) 0
+      (λ i l h. are-both (spellsCell b i) (isCell (cellAt b (start i))) (sound-flag i (omega arith)) (cell-used i (omega arith)))
 
   byte-past : (k : ℕ) → start (byteAt b 2) ≤ k → k < size → byteAt b k ≡ 0
   unfolding spellsCell
@@ -141,7 +151,8 @@ module _ (b : List ℕ) (s : bytesSound b ≡ true) where
   sound-zero =
       let n = sound-count in
       let z = sound-size in
-      each-from (isZero b) (length b - start (byteAt b 2)) (start (byteAt b 2)) (λ k l h. eq-eqb (byteAt b k) 0 (byte-past k l (omega arith)))
+      each-from (isZero b) (length b - start (byteAt b 2)) (start (byteAt b 2))
+      (λ k l h. eq-eqb (byteAt b k) 0 (byte-past k l (omega arith)))
 
 -- ---- the tests that the code makes, in its order
 module _ (b : List ℕ) where
@@ -180,24 +191,35 @@ module _ (b : List ℕ) where
     pub no-cells : (v : Bool) → v ≡ cellsFit b n → not v ≡ true → false ≡ bytesSound b
     no-cells v q t = sym (not-yes (bytesSound b) v (λ (e : bytesSound b ≡ true). q ∙ rw p (sound-cells b e)) (not-true v t))
 
-    tests-sound : length b ≡ size → byteAt b 0 ≤ 1 → byteAt b 1 ≤ 1 → n ≤ limit → reservedZero b ≡ true → cellsFit b n ≡ true → zeroFrom b (start n) ≡ true
+    tests-sound : length b ≡ size → byteAt b 0 ≤ 1 → byteAt b 1 ≤ 1 → n ≤ limit → reservedZero b ≡ true → cellsFit b n ≡ true
+        → zeroFrom b (start n) ≡ true
         → bytesSound b ≡ true
     unfolding bytesSound compositionOf cellsFit cellFits zeroFrom isZero
     tests-sound l m o f w c z =
-        rw (eq-eqb (length b) size l, le-leb (byteAt b 0) 1 m, le-leb (byteAt b 1) 1 o, w, each-from (spellsCell b) limit 0 (λ i k h. flags i (omega arith)))
+        rw (
+          eq-eqb (length b) size l,
+          le-leb (byteAt b 0) 1 m,
+          le-leb (byteAt b 1) 1 o,
+          w,
+          each-from (spellsCell b) limit 0
+              (λ i k h. flags i (omega arith)),
+        )
         (is-sound (compositionOf b) composed)
       where
         used-fits : (i : ℕ) → i < n → (spellsCell b i ≡ true) × (isCell (cellAt b (start i)) ≡ true)
         used-fits i h = both-are (spellsCell b i) (isCell (cellAt b (start i))) (each-is (cellFits b) n 0 c i (omega arith) (omega arith))
 
         past-zero : (i : ℕ) → n ≤ i → i < limit → (j : ℕ) → j < 8 → byteAt b (start i + j) ≡ 0
-        past-zero i k h j g = eqb-true (byteAt b (start i + j)) 0 (each-is (isZero b) (length b - start n) (start n) z (start i + j) (omega arith) (omega arith))
+        past-zero i k h j g = eqb-true (byteAt b (start i + j)) 0
+            (each-is (isZero b) (length b - start n) (start n) z (start i + j) (omega arith) (omega arith))
 
         flags : (i : ℕ) → i < limit → spellsCell b i ≡ true
-        flags i h = ⊎-elim (λ (g : i < n). used-fits i g .0) (λ (g : n ≤ i). zero-flag b i (past-zero i g h 7 (omega arith))) (below-or-not i n)
+        flags i h = ⊎-elim (λ (g : i < n). used-fits i g .0)
+            (λ (g : n ≤ i). zero-flag b i (past-zero i g h 7 (omega arith))) (below-or-not i n)
 
         composed : Sound (compositionOf b)
         composed = record {
+          whole = cells-length limit b head;
           few = rw (← p) f;
           inUse = λ i h. rw (cells-at limit b head i (omega arith)) (cell-is (cellAt b (start i)) (used-fits i (omega arith) .1));
           past = λ i k h. rw (cells-at limit b head i h) (zero-blank b i (past-zero i (omega arith) h));
@@ -208,7 +230,8 @@ module _ (b : List ℕ) where
         → v ≡ cellsFit b n → not v ≡ false → r ≡ zeroFrom b (start n)
         → r ≡ bytesSound b
     zero-decides r w v l m o f g d q t e =
-        both r (bytesSound b) (λ (h : r ≡ true). tests-sound l m o f (sym g ∙ not-false w d) (sym q ∙ not-false v t) (sym e ∙ h)) (λ (h : bytesSound b ≡ true). e ∙ rw p (sound-zero b h))
+        both r (bytesSound b) (λ (h : r ≡ true). tests-sound l m o f (sym g ∙ not-false w d) (sym q ∙ not-false v t) (sym e ∙ h))
+        (λ (h : bytesSound b ≡ true). e ∙ rw p (sound-zero b h))
       where
         both : (x y : Bool) → (x ≡ true → y ≡ true) → (y ≡ true → x ≡ true) → x ≡ y
         both true y g h = sym (g refl)
@@ -227,22 +250,28 @@ module _ (b : List ℕ) (s : bytesSound b ≡ true) where
   cells-read =
       let n = sound-count b s in
       ext-getD blank (cellsAt limit b head) (cellsAt (byteAt b 2) b head ++ blanks (limit - byteAt b 2))
-      (cells-length limit b head ∙ sym (length-append (cellsAt (byteAt b 2) b head) (blanks (limit - byteAt b 2)) ∙ rw (cells-length (byteAt b 2) b head, length-blanks) (omega arith)))
+      (cells-length limit b head ∙ sym
+      (length-append (cellsAt (byteAt b 2) b head) (blanks (limit - byteAt b 2))
+      ∙ rw (cells-length (byteAt b 2) b head, length-blanks) (omega arith)))
       (λ i h. at i (rw (cells-length limit b head) at h))
     where
-      at : (i : ℕ) → i < limit → getD (cellsAt limit b head) i blank ≡ getD (cellsAt (byteAt b 2) b head ++ blanks (limit - byteAt b 2)) i blank
+      at : (i : ℕ) → i < limit → getD (cellsAt limit b head) i blank ≡ getD
+          (cellsAt (byteAt b 2) b head ++ blanks (limit - byteAt b 2)) i blank
       at i h =
           cells-at limit b head i h
           ∙ ⊎-elim (λ (g : i < byteAt b 2).
-          sym (List·getD-append (cellsAt (byteAt b 2) b head) (blanks (limit - byteAt b 2)) blank i (rw (cells-length (byteAt b 2) b head) g) ∙ cells-at (byteAt b 2) b head i g))
+          sym (List·getD-append (cellsAt (byteAt b 2) b head) (blanks (limit - byteAt b 2)) blank i
+          (rw (cells-length (byteAt b 2) b head) g) ∙ cells-at (byteAt b 2) b head i g))
           (λ (g : byteAt b 2 ≤ i).
           let l = cells-length (byteAt b 2) b head in
           let d : i ≡ length (cellsAt (byteAt b 2) b head) + (i - byteAt b 2) = omega arith in
           cell-past b s i g h ∙ sym (ap (λ (k : ℕ). getD (cellsAt (byteAt b 2) b head ++ blanks (limit - byteAt b 2)) k blank) d
-          ∙ getD-append-add (cellsAt (byteAt b 2) b head) (blanks (limit - byteAt b 2)) (i - byteAt b 2) blank ∙ blanks-at (limit - byteAt b 2) (i - byteAt b 2)))
+          ∙ getD-append-add (cellsAt (byteAt b 2) b head) (blanks (limit - byteAt b 2)) (i - byteAt b 2) blank
+          ∙ blanks-at (limit - byteAt b 2) (i - byteAt b 2)))
           (below-or-not i (byteAt b 2))
 
-  pub decoded : (xs : List Cell) (n : ℕ) (m : InputMethod) (o : Mode) → n ≡ byteAt b 2 → xs ≡ cellsAt n b head ++ blanks (limit - n) → m ≡ methodOf (byteAt b 0) → o ≡ modeOf (byteAt b 1)
+  pub decoded : (xs : List Cell) (n : ℕ) (m : InputMethod) (o : Mode) → n ≡ byteAt b 2 → xs ≡ cellsAt n b head ++ blanks (limit - n)
+      → m ≡ methodOf (byteAt b 0) → o ≡ modeOf (byteAt b 1)
       → record { cells = xs; method = m; mode = o; count = n } ≡ compositionOf b
   unfolding compositionOf
   decoded xs n m o p q t u = rw (q, p, ← cells-read, t, u) refl

@@ -7,11 +7,11 @@ use native.Mathlib.Omega.{arith}
 use lib.Dec.{eqb, ltb}
 use lib.ListN.{length}
 use borrow.Author.Tests.{eq-eqb, ne-eqb, eqb-true, eqb-false, lt-ltb, le-ltb, le-leb, lt-leb, not-true, not-false}
-use Rattle.p0_choice.specs.Choice.{pick, each, count as numbers}
+use Rattle.p0_choice.specs.Choice.{pick, each, from as numbers}
 use Rattle.p3_cells.specs.Cells.{isCell}
 use Rattle.p3_cells.specs.declared.Cell.{Cell}
 use Rattle.p6_bytes.specs.Bytes.{byteAt, cellAt, start, spellsCell, isZero, reservedZero}
-use Rattle.p6_bytes.specs.Parts.{cellFits, cellsFit, zeroFrom}
+use Rattle.p6_bytes.specs.Mirror.{cellFits, cellsFit, zeroFrom}
 
 turn : (p : ℕ → Bool) (n i : ℕ) → i < n → each p (numbers (n - i) i) ≡ pick (p i) (each p (numbers (n - (i + 1)) (i + 1))) false
 turn p n i h =
@@ -36,18 +36,27 @@ sum-zero x y = go (eqb x 0) refl
 
 -- all eight as a number n: it is below 256 to the third where the last five are 0
 module _ (b0 b1 b2 b3 b4 b5 b6 b7 : ℕ) (h0 : b0 < 256) (h1 : b1 < 256) (h2 : b2 < 256) where
-  below-as : (n : ℕ) (t : Bool) → n ≡ b0 + b1 * 256 + b2 * 65536 + b3 * 16777216 + b4 * 4294967296 + b5 * 1099511627776 + b6 * 281474976710656 + b7 * 72057594037927936 → eqb (b3 + (b4 + (b5 + (b6 + b7)))) 0 ≡ t → ltb n 16777216 ≡ t
+  below-as : (n : ℕ) (t : Bool) → n ≡ b0 + b1 * 256 + b2 * 65536 + b3 * 16777216 + b4 * 4294967296 + b5 * 1099511627776 + b6 *
+      281474976710656 + b7 * 72057594037927936 → eqb (b3 + (b4 + (b5 + (b6 + b7)))) 0 ≡ t → ltb n 16777216 ≡ t
   below-as n true p e = let z = eqb-true (b3 + (b4 + (b5 + (b6 + b7)))) 0 e in lt-ltb n 16777216 (omega arith)
   below-as n false p e = le-ltb n 16777216 (omega (arith, eqb-false (b3 + (b4 + (b5 + (b6 + b7)))) 0 e))
 
-  pub below : ltb (b0 + b1 * 256 + b2 * 65536 + b3 * 16777216 + b4 * 4294967296 + b5 * 1099511627776 + b6 * 281474976710656 + b7 * 72057594037927936) 16777216 ≡ eqb (b3 + (b4 + (b5 + (b6 + b7)))) 0
+  pub below : ltb (b0 + b1 * 256 + b2 * 65536 + b3 * 16777216 + b4 * 4294967296 + b5 * 1099511627776 + b6 * 281474976710656 + b7
+      * 72057594037927936) 16777216 ≡ eqb (b3 + (b4 + (b5 + (b6 + b7)))) 0
   below = below-as _ _ refl refl
 
 pub free : (b : List ℕ) (r : Bool) → r ≡ eqb (byteAt b 3 + (byteAt b 4 + (byteAt b 5 + (byteAt b 6 + byteAt b 7)))) 0 → r ≡ reservedZero b
 unfolding reservedZero isZero
 free b r e =
     e
-    ∙ sym (rw (whole (eqb (byteAt b 7) 0), sum-zero (byteAt b 6) (byteAt b 7), sum-zero (byteAt b 5) _, sum-zero (byteAt b 4) _, sum-zero (byteAt b 3) _) refl)
+    ∙ sym (rw (
+      whole (eqb (byteAt b 7) 0),
+      sum-zero (byteAt b 6) (byteAt b 7),
+      sum-zero (byteAt b 5) _,
+      sum-zero (byteAt b 4) _,
+      sum-zero
+          (byteAt b 3) _,
+    ) refl)
 
 -- ---- one cell
 module _ (b : List ℕ) (i : ℕ) where
@@ -102,7 +111,8 @@ module _ (b : List ℕ) (at most i : ℕ) (e : zeroFrom b at ≡ pick (eqb most 
       → zeroFrom b at ≡ pick (eqb next 0) (each (isZero b) (numbers (length b - (i + 1)) (i + 1))) false
   unfolding isZero
   zero-on next v h p q =
-      e ∙ rw (turn (isZero b) (length b) i h, q, p) (regroup (eqb most 0) (eqb (byteAt b i) 0) (each (isZero b) (numbers (length b - (i + 1)) (i + 1))))
+      e ∙ rw (turn (isZero b) (length b) i h, q, p)
+      (regroup (eqb most 0) (eqb (byteAt b i) 0) (each (isZero b) (numbers (length b - (i + 1)) (i + 1))))
 
   pub zero-done : length b ≤ i → eqb most 0 ≡ zeroFrom b at
   zero-done h = sym (e ∙ rw (end (isZero b) (length b) i h) (whole (eqb most 0)))

@@ -9,11 +9,14 @@ use lib.Seq.{sets-eq, length-take-le, take-at, drop-at, drop-drop, take-suc, dro
 use Rattle.p3_cells.specs.Cells.{limit, blank, blanks, used, holding}
 use Rattle.p3_cells.specs.declared.Cell.{Cell}
 use Rattle.p3_cells.specs.declared.Composition.{Composition}
-use Rattle.p6_bytes.specs.Bytes.{head, known, start, size, methodByte, modeByte, flagByte, cellBytes, cellsBytes, zeros, headBytes, bytesOf}
+use Rattle.p3_cells.proofs.Holding.{count-held, cells-held}
+use Rattle.p6_bytes.specs.Bytes.{head, known, start, size, methodByte, modeByte, flagByte, cellBytes, cellsBytes, zeros, headBytes}
+use Rattle.p6_bytes.specs.Bytes.{bytesOf}
 
 -- ---- a cell
 eight : (s : List ℕ) (at v0 v1 v2 v3 v4 v5 v6 v7 : ℕ) → at + 8 ≤ length s
-    → set (set (set (set (set (set (set (set s at v0) (at + 1) v1) (at + 2) v2) (at + 3) v3) (at + 4) v4) (at + 5) v5) (at + 6) v6) (at + 7) v7
+    → set (set (set (set (set (set (set (set s at v0) (at + 1) v1) (at + 2) v2) (at + 3) v3) (at + 4) v4) (at + 5) v5) (at + 6) v6)
+    (at + 7) v7
     ≡ take at s ++ ((v0 ∷ v1 ∷ v2 ∷ v3 ∷ v4 ∷ v5 ∷ v6 ∷ v7 ∷ []) ++ drop (at + 8) s)
 eight s at v0 v1 v2 v3 v4 v5 v6 v7 h =
     let e1 : at + 1 ≡ suc at = omega arith in
@@ -27,7 +30,9 @@ eight s at v0 v1 v2 v3 v4 v5 v6 v7 h =
     rw (e1, e2, e3, e4, e5, e6, e7) (sets-eq vs s at h ∙ append-assoc (take at s) vs (drop (at + 8) s))
 
 pub cell-put : (s : List ℕ) (at flag : ℕ) (x : Cell) → at + 8 ≤ length s → flag ≡ flagByte (x .upper)
-    → set (set (set (set (set (set (set (set s at (x .base % 256)) (at + 1) (x .base / 256 % 256)) (at + 2) (x .base / 65536 % 256)) (at + 3) (x .base / 16777216))
+    → set (set
+    (set (set (set (set (set (set s at (x .base % 256)) (at + 1) (x .base / 256 % 256)) (at + 2) (x .base / 65536 % 256)) (at + 3)
+    (x .base / 16777216))
     (at + 4) (x .mark % 256)) (at + 5) (x .mark / 256)) (at + 6) (x .tone)) (at + 7) flag
     ≡ take at s ++ (cellBytes x ++ drop (at + 8) s)
 unfolding cellBytes
@@ -50,7 +55,8 @@ on : (p x s b : List ℕ) (n m : ℕ) → b ≡ p ++ drop n s → length p ≡ n
 on p x s b n m e l h =
     let t : take n b ≡ p = rw e (take-at p (drop n s) n l) in
     let d : drop n b ≡ drop n s = rw e (drop-at p (drop n s) n l) in
-    let g : drop m b ≡ drop m s = rw h (sym (drop-drop (length x) n b) ∙ ap (λ (q : List ℕ). drop (length x) q) d ∙ drop-drop (length x) n s) in
+    let g : drop m b ≡ drop m s = rw h
+    (sym (drop-drop (length x) n b) ∙ ap (λ (q : List ℕ). drop (length x) q) d ∙ drop-drop (length x) n s) in
     rw (t, g) (sym (append-assoc p x (drop m s)))
 
 -- ---- the loop of put_cells
@@ -64,16 +70,20 @@ module _ (xs : List Cell) (b₀ b : List ℕ) (i n : ℕ) (e : b ≡ (take head 
   put-on x next l k h f p q =
       let t : length (take i xs) ≡ i = length-take-le i xs (omega arith) in
       let u : length (take head b₀) ≡ head = length-take-le head b₀ (omega arith) in
-      let w : length (take head b₀ ++ cellsBytes (take i xs)) ≡ start i = omega (arith, length-append (take head b₀) (cellsBytes (take i xs)), bytes-length (take i xs)) in
+      let w : length (take head b₀ ++ cellsBytes (take i xs)) ≡ start i =
+      omega (arith, length-append (take head b₀) (cellsBytes (take i xs)), bytes-length (take i xs)) in
       let j : i < length xs = omega arith in
       let g : start i + 8 ≡ start (i + 1) = omega arith in
       let m : cellsBytes (take (i + 1) xs) ≡ cellsBytes (take i xs) ++ cellBytes x
-      = rw (add-one i, take-suc xs i blank j, bytes-append (take i xs) (getD xs i blank ∷ []), append-nil (cellBytes (getD xs i blank)), p) refl in
-      let o : take (start i) b ++ (cellBytes x ++ drop (start (i + 1)) b) ≡ ((take head b₀ ++ cellsBytes (take i xs)) ++ cellBytes x) ++ drop (start (i + 1)) b₀
+      = rw (add-one i, take-suc xs i blank j, bytes-append (take i xs) (getD xs i blank ∷ []), append-nil (cellBytes (getD xs i blank)), p)
+      refl in
+      let o : take (start i) b ++ (cellBytes x ++ drop (start (i + 1)) b) ≡ ((take head b₀ ++ cellsBytes (take i xs)) ++ cellBytes x)
+      ++ drop (start (i + 1)) b₀
       = on (take head b₀ ++ cellsBytes (take i xs)) (cellBytes x) b₀ b (start i) (start (i + 1)) e w (omega (arith, cell-length x)) in
       q ∙ rw (g, o, m, append-assoc (take head b₀) (cellsBytes (take i xs)) (cellBytes x)) refl
 
-  pub put-done : (c : Composition) → xs ≡ c .cells → n ≡ c .count → i ≤ n → n ≤ i → b ≡ (take head b₀ ++ cellsBytes (used c)) ++ drop (start n) b₀
+  pub put-done : (c : Composition) → xs ≡ c .cells → n ≡ c .count → i ≤ n → n ≤ i
+      → b ≡ (take head b₀ ++ cellsBytes (used c)) ++ drop (start n) b₀
   unfolding used
   put-done c p q l h = let z : i ≡ n = omega arith in rw (← p, ← q) (rw z at e)
 
@@ -96,8 +106,10 @@ module _ (b₀ b : List ℕ) (at i : ℕ) (e : b ≡ take at b₀ ++ (zeros (i -
       let d : i + 1 - at ≡ suc (i - at) = omega arith in
       let a : i + 1 ≡ suc i = omega arith in
       let p : List ℕ = take at b₀ ++ zeros (i - at) in
-      let t : length p ≡ i = omega (arith, length-append (take at b₀) (zeros (i - at)), length-take-le at b₀ (omega arith), length-zeros (i - at)) in
-      let f : b ≡ p ++ (getD b₀ i 0 ∷ drop (suc i) b₀) = e ∙ rw (drop-cons b₀ i 0 h) (sym (append-assoc (take at b₀) (zeros (i - at)) (getD b₀ i 0 ∷ drop (suc i) b₀))) in
+      let t : length p ≡ i =
+      omega (arith, length-append (take at b₀) (zeros (i - at)), length-take-le at b₀ (omega arith), length-zeros (i - at)) in
+      let f : b ≡ p ++ (getD b₀ i 0 ∷ drop (suc i) b₀) =
+      e ∙ rw (drop-cons b₀ i 0 h) (sym (append-assoc (take at b₀) (zeros (i - at)) (getD b₀ i 0 ∷ drop (suc i) b₀))) in
       let g : set b i 0 ≡ p ++ (0 ∷ drop (suc i) b₀) = rw f (set-at p (getD b₀ i 0) (drop (suc i) b₀) 0 i t) in
       let z : zeros (i + 1 - at) ≡ zeros (i - at) ++ (0 ∷ []) = ap zeros d ∙ zeros-more (i - at) in
       g ∙ rw (z, a) (simp append-assoc)
@@ -120,21 +132,21 @@ three (x ∷ []) a b d h = absurd (omega arith)
 three [] a b d h = absurd (omega arith)
 
 module _ (c : Composition) (tidy : c ≡ holding c (used c)) where
-  pub tidy-count : c .count ≡ length (used c)
-  unfolding holding
-  tidy-count = ap (λ (d : Composition). d .count) tidy
+  tidy-count : c .count ≡ length (used c)
+  tidy-count = ap (λ (d : Composition). d .count) tidy ∙ count-held c (used c)
 
   tidy-cells : c .cells ≡ used c ++ blanks (limit - c .count)
-  unfolding holding
-  tidy-cells = ap (λ (d : Composition). d .cells) tidy ∙ rw (← tidy-count) refl
+  tidy-cells = ap (λ (d : Composition). d .cells) tidy ∙ cells-held c (used c) ∙ rw (← tidy-count) refl
 
   pub tidy-fits : length (c .cells) ≡ limit → c .count ≤ limit
   unfolding used
   tidy-fits l = omega (arith, tidy-count, length-take (c .count) (c .cells))
 
   -- s4 is what stands once the head is written, b1 with the cells in use, b2 the whole
-  pub encoded : (s s4 b1 b2 : List ℕ) (m o : ℕ) → length s ≡ size → length (c .cells) ≡ limit → m ≡ methodByte (c .method) → o ≡ modeByte (c .mode)
-      → s4 ≡ take known (set (set (set s 0 m) 1 o) 2 (c .count)) ++ (zeros (head - known) ++ drop head (set (set (set s 0 m) 1 o) 2 (c .count)))
+  pub encoded : (s s4 b1 b2 : List ℕ) (m o : ℕ) → length s ≡ size → length (c .cells) ≡ limit → m ≡ methodByte (c .method)
+      → o ≡ modeByte (c .mode)
+      → s4 ≡ take known (set (set (set s 0 m) 1 o) 2 (c .count))
+      ++ (zeros (head - known) ++ drop head (set (set (set s 0 m) 1 o) 2 (c .count)))
       → b1 ≡ (take head s4 ++ cellsBytes (used c)) ++ drop (start (c .count)) s4 → length b1 ≡ size
       → b2 ≡ take (start (c .count)) b1 ++ (zeros (size - start (c .count)) ++ drop size b1)
       → b2 ≡ bytesOf c
@@ -146,10 +158,21 @@ module _ (c : Composition) (tidy : c ≡ holding c (used c)) where
       let t4 : take head s4 ≡ headBytes c = rw h (take-at (headBytes c) (drop head s3) head refl) in
       let w : length (take head s4 ++ cellsBytes (used c)) ≡ start (c .count)
       = omega (arith, length-append (take head s4) (cellsBytes (used c)), bytes-length (used c), tidy-count, ap length t4) in
-      let t : take (start (c .count)) b1 ≡ take head s4 ++ cellsBytes (used c) = rw e1 (take-at (take head s4 ++ cellsBytes (used c)) _ (start (c .count)) w) in
+      let t : take (start (c .count)) b1 ≡ take head s4 ++ cellsBytes (used c) =
+      rw e1 (take-at (take head s4 ++ cellsBytes (used c)) _ (start (c .count)) w) in
       let z : size - start (c .count) ≡ 8 * (limit - c .count) = omega arith in
       let g : length b1 ≤ size = omega arith in
       let d : drop size b1 ≡ [] = drop-of-length-le b1 g in
       let u : cellsBytes (c .cells) ≡ cellsBytes (used c) ++ zeros (8 * (limit - c .count))
-      = ap cellsBytes tidy-cells ∙ bytes-append (used c) (blanks (limit - c .count)) ∙ ap (λ (r : List ℕ). cellsBytes (used c) ++ r) (blank-bytes (limit - c .count)) in
-      e2 ∙ rw (t, z, d, t4, u, append-nil (zeros (8 * (limit - c .count))), append-assoc (headBytes c) (cellsBytes (used c)) (zeros (8 * (limit - c .count)))) refl
+      = ap cellsBytes tidy-cells ∙ bytes-append (used c) (blanks (limit - c .count))
+      ∙ ap (λ (r : List ℕ). cellsBytes (used c) ++ r) (blank-bytes (limit - c .count)) in
+      e2 ∙ rw (
+        t,
+        z,
+        d,
+        t4,
+        u,
+        append-nil (zeros (8 * (limit - c .count))),
+        append-assoc (headBytes c) (cellsBytes (used c))
+            (zeros (8 * (limit - c .count))),
+      ) refl

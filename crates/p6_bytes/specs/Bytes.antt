@@ -1,12 +1,12 @@
 -- Document 01, "Port order": "the composition as bytes in an order that docs/ states". A head of 8 bytes: the method, the
--- mode, the count, and bytes kept for settings to come. Then 32 cells of 8 bytes: the base in four and the mark in two, low
+-- mode, the count, and bytes kept for settings to come. Then the cells, of 8 bytes each: the base in four and the mark in two, low
 -- byte first, the tone, the capital flag.
 use Prim.Native.Nat.{ℕ, zero, suc, _+_, _*_, _-_, _/_, _%_}
 use mathlib.Core.Bool.{Bool, false}
 use mathlib.Core.List.{List, [], _∷_, _++_}
 use lib.Dec.{eqb, leb}
 use lib.ListN.{length, getD, replicate}
-use Rattle.p0_choice.specs.Choice.{pick, each, count as from}
+use Rattle.p0_choice.specs.Choice.{pick, each, from}
 use Rattle.p2_input_method.specs.declared.InputMethod.{InputMethod}
 use Rattle.p2_input_method.specs.declared.InputMethod.the-variants.{Telex, Vni}
 use Rattle.p3_cells.specs.Cells.{limit, isSound}
@@ -43,7 +43,8 @@ flagByte b = pick b 1 0
 
 unfoldable pub cellBytes : Cell → List ℕ
 cellBytes x =
-    (x .base % 256) ∷ (x .base / 256 % 256) ∷ (x .base / 65536 % 256) ∷ (x .base / 16777216) ∷ (x .mark % 256) ∷ (x .mark / 256) ∷ x .tone ∷ flagByte (x .upper) ∷ []
+    (x .base % 256) ∷ (x .base / 256 % 256) ∷ (x .base / 65536 % 256) ∷ (x .base / 16777216) ∷ (x .mark % 256) ∷ (x .mark / 256) ∷ x .tone
+    ∷ flagByte (x .upper) ∷ []
 
 abbrev pub cellsBytes : List Cell → List ℕ
 cellsBytes [] = []

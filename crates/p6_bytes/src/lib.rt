@@ -7,8 +7,9 @@ ghost use lib.Dec.{eqb};
 ghost use lib.ListN.{length, take, drop};
 ghost use Rattle.p0_choice.specs.Choice.{pick};
 ghost use Rattle.p3_cells.specs.Cells.{limit, blanks, used, holding};
-ghost use Rattle.p6_bytes.specs.Bytes.{head, size, methodByte, modeByte, flagByte, cellBytes, cellsBytes, zeros, bytesOf, cellAt, start, methodOf, modeOf, cellsAt, compositionOf, reservedZero, bytesSound};
-ghost use Rattle.p6_bytes.specs.Parts.{cellFits, cellsFit, zeroFrom};
+ghost use Rattle.p6_bytes.specs.Bytes.{head, size, methodByte, modeByte, flagByte, cellBytes, cellsBytes, zeros, bytesOf, cellAt};
+ghost use Rattle.p6_bytes.specs.Bytes.{start, methodOf, modeOf, cellsAt, compositionOf, reservedZero, bytesSound};
+ghost use Rattle.p6_bytes.specs.Mirror.{cellFits, cellsFit, zeroFrom};
 use p2_input_method::InputMethod;
 use p3_cells as cells;
 use p3_cells::Cell;
@@ -275,7 +276,8 @@ fn put_cell(b: &mut [u8], at: usize, x: Cell)
 
 fn put_cells(c: Composition, b: &mut [u8])
     requires { ⌜ (length (now b) ≡ size) × (c .count ≤ limit) ⌝ }
-    ensures { λ _. ⌜ (length (now (b .exit)) ≡ size) × (now (b .exit) ≡ (take head (now (b .entry)) ++ cellsBytes (used c)) ++ drop (start (c .count)) (now (b .entry))) ⌝ }
+    ensures { λ _. ⌜ (length (now (b .exit)) ≡ size)
+        × (now (b .exit) ≡ (take head (now (b .entry)) ++ cellsBytes (used c)) ++ drop (start (c .count)) (now (b .entry))) ⌝ }
 {
     let n = c.count;
     let mut i: usize = 0;

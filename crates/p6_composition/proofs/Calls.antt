@@ -14,18 +14,21 @@ use Rattle.p0_refusals.specs.declared.Refusal.the-variants.{Unsound}
 use Rattle.p2_input_method.specs.declared.InputMethod.{InputMethod}
 use Rattle.p3_cells.specs.Cells.{isSound, used, holding}
 use Rattle.p3_cells.specs.declared.Composition.{Composition}
+use Rattle.p3_cells.proofs.Holding.{holding-used}
 use Rattle.p6_bytes.specs.Bytes.{size, bytesOf, compositionOf, methodOf, bytesSound}
 use Rattle.p6_bytes.proofs.Sound.{sound-size, sound-composition}
 use Rattle.p3_key.specs.Process.{keyOutcome, keyed}
 use Rattle.p3_calls.specs.Literal.{literal}
-use Rattle.p3_calls.specs.Output.{textOutcome, popOutcome, popped}
+use Rattle.p3_calls.specs.Output.{textOutcome, removalOutcome, removed}
 use Rattle.p3_calls.specs.Settings.{created, resetTo, methodSet, enabledSet}
-use Rattle.p3_cells.specs.declared.Changed.{Changed}
+use Rattle.p3_calls.proofs.Kept.{new-sound}
+use Rattle.p3_cells.specs.declared.After.{After}
 use Rattle.p3_undo.specs.Call.{undoTelex}
 use Rattle.p3_undo.specs.declared.Undone.{Undone}
-use Rattle.p6_composition.specs.Steps.{undoneStep}
-use Rattle.p6_composition.specs.Calls.{answerOn, after, bytesOn, outOn, keyStep, resetStep, literalStep, popStep, undoStep, orUnsound, methodStep, modeStep, textOn, newOn, newBytes}
-use Rattle.p6_composition.proofs.Tidy.{tidy-as, key-tidy, reset-tidy, literal-tidy, pop-tidy, undo-step-tidy, method-tidy, mode-tidy, created-tidy}
+use Rattle.p6_composition.specs.UndoAnswer.{undoLeaving}
+use Rattle.p6_composition.specs.Calls.{answerOn, bytesAfter, bytesOn, outOn, keyOn, resetOn, literalOn, removalOn, undoOn, orUnsound}
+use Rattle.p6_composition.specs.Calls.{methodOn, modeOn, textOn, newOn, newBytes}
+use Rattle.p6_composition.proofs.Kept.{key-step, reset-step, literal-step, removal-step, undo-step, method-step, mode-step}
 
 -- the test has let the bytes through
 pub ok-sound : (b : List ℕ) (v : Bool) → v ≡ bytesSound b → not v ≡ false → bytesSound b ≡ true
@@ -34,7 +37,7 @@ ok-sound b v e t = sym e ∙ not-false v t
 pub ok-size : (b : List ℕ) (v : Bool) → v ≡ bytesSound b → not v ≡ false → length b ≡ size
 ok-size b v e t = sound-size b (ok-sound b v e t)
 
-module _ (b : List ℕ) (s : Changed) (v : Bool) (e : v ≡ bytesSound b) where
+module _ (b : List ℕ) (s : After) (v : Bool) (e : v ≡ bytesSound b) where
   pub unsound-answer : not v ≡ true → Refused Unsound ≡ answerOn b s
   unfolding answerOn
   unsound-answer t = rw (← e, not-true v t) refl
@@ -44,14 +47,14 @@ module _ (b : List ℕ) (s : Changed) (v : Bool) (e : v ≡ bytesSound b) where
   unsound-bytes t = rw (← e, not-true v t) refl
 
   -- p is what the call by value leaves
-  module _ (p : Changed) (q : p ≡ s) where
+  module _ (p : After) (q : p ≡ s) where
     pub sound-answer : (r : Answer) → not v ≡ false → r ≡ p .answer → r ≡ answerOn b s
     unfolding answerOn
-    sound-answer r t h = rw (← e, not-false v t) (h ∙ ap (λ (x : Changed). x .answer) q)
+    sound-answer r t h = rw (← e, not-false v t) (h ∙ ap (λ (x : After). x .answer) q)
 
-    pub sound-bytes : (new : List ℕ) → not v ≡ false → new ≡ after (p .answer) b (p .comp) → new ≡ bytesOn b s
+    pub sound-bytes : (new : List ℕ) → not v ≡ false → new ≡ bytesAfter (p .answer) b (p .comp) → new ≡ bytesOn b s
     unfolding bytesOn answerOn
-    sound-bytes new t h = rw (← e, not-false v t) (h ∙ ap (λ (x : Changed). after (x .answer) b (x .comp)) q)
+    sound-bytes new t h = rw (← e, not-false v t) (h ∙ ap (λ (x : After). bytesAfter (x .answer) b (x .comp)) q)
 
 -- ---- a lent output
 module _ (b out : List ℕ) (w : Outcome) (v : Bool) (e : v ≡ bytesSound b) where
@@ -67,60 +70,65 @@ module _ (b out new : List ℕ) (c : Composition) (v : Bool) (e : v ≡ bytesSou
   pub key-out : (l : ℕ) → new ≡ output (keyOutcome c l) out → new ≡ outOn b (keyOutcome (compositionOf b) l) out
   key-out l h = sound-out b out _ v e new t (rw (← f) h)
 
-  pub pop-out : new ≡ output (popOutcome c) out → new ≡ outOn b (popOutcome (compositionOf b)) out
-  pop-out h = sound-out b out _ v e new t (rw (← f) h)
+  pub removal-out : new ≡ output (removalOutcome c) out → new ≡ outOn b (removalOutcome (compositionOf b)) out
+  removal-out h = sound-out b out _ v e new t (rw (← f) h)
 
   pub text-out : new ≡ output (textOutcome c) out → new ≡ outOn b (textOutcome (compositionOf b)) out
   text-out h = sound-out b out _ v e new t (rw (← f) h)
 
+-- what a call leaves is sound, and so can be written: its cells past the count are blank
+ready : (p s : After) → p ≡ s → isSound (s .comp) ≡ true → p .comp ≡ holding (p .comp) (used (p .comp))
+ready p s e h = rw e (holding-used (s .comp) h)
+
 -- ---- a key
-module _ (b : List ℕ) (c : Composition) (l : ℕ) (out : List ℕ) (p : Changed) (f : c ≡ compositionOf b) (g : p ≡ keyed c l (length out)) where
-  pub key-is : p ≡ keyStep b l out
-  unfolding keyStep
+module _ (b : List ℕ) (c : Composition) (l : ℕ) (out : List ℕ) (p : After) (f : c ≡ compositionOf b) (g : p ≡ keyed c l (length out)) where
+  pub key-is : p ≡ keyOn b l out
+  unfolding keyOn
   key-is = rw (g, f) refl
 
   pub key-ready : (v : Bool) → v ≡ bytesSound b → not v ≡ false → p .comp ≡ holding (p .comp) (used (p .comp))
-  key-ready v e t = tidy-as p (keyStep b l out) key-is (key-tidy b (ok-sound b v e t) l out)
+  key-ready v e t = ready p (keyOn b l out) key-is (key-step b (ok-sound b v e t) l out)
 
 -- the composition that it is given is sound
 pub ok-read : (b : List ℕ) (v : Bool) (c : Composition) → v ≡ bytesSound b → not v ≡ false → c ≡ compositionOf b → isSound c ≡ true
 ok-read b v c e t f = rw f (sound-composition b (ok-sound b v e t))
 
 -- ---- the reset
-module _ (b : List ℕ) (c : Composition) (p : Changed) (f : c ≡ compositionOf b) (g : p ≡ resetTo c) where
-  pub reset-is : p ≡ resetStep b
-  unfolding resetStep
+module _ (b : List ℕ) (c : Composition) (p : After) (f : c ≡ compositionOf b) (g : p ≡ resetTo c) where
+  pub reset-is : p ≡ resetOn b
+  unfolding resetOn
   reset-is = rw (g, f) refl
 
   pub reset-ready : (v : Bool) → v ≡ bytesSound b → not v ≡ false → p .comp ≡ holding (p .comp) (used (p .comp))
-  reset-ready v e t = tidy-as p (resetStep b) reset-is (reset-tidy b (ok-sound b v e t))
+  reset-ready v e t = ready p (resetOn b) reset-is (reset-step b (ok-sound b v e t))
 
 -- ---- a literal
-module _ (b : List ℕ) (c : Composition) (l : ℕ) (p : Changed) (f : c ≡ compositionOf b) (g : p ≡ literal c l) where
-  pub literal-is : p ≡ literalStep b l
-  unfolding literalStep
+module _ (b : List ℕ) (c : Composition) (l : ℕ) (p : After) (f : c ≡ compositionOf b) (g : p ≡ literal c l) where
+  pub literal-is : p ≡ literalOn b l
+  unfolding literalOn
   literal-is = rw (g, f) refl
 
   pub literal-ready : (v : Bool) → v ≡ bytesSound b → not v ≡ false → p .comp ≡ holding (p .comp) (used (p .comp))
-  literal-ready v e t = tidy-as p (literalStep b l) literal-is (literal-tidy b (ok-sound b v e t) l)
+  literal-ready v e t = ready p (literalOn b l) literal-is (literal-step b (ok-sound b v e t) l)
 
 -- ---- the removal
-module _ (b : List ℕ) (c : Composition) (out : List ℕ) (p : Changed) (f : c ≡ compositionOf b) (g : p ≡ popped c (length out)) where
-  pub pop-is : p ≡ popStep b out
-  unfolding popStep
-  pop-is = rw (g, f) refl
+module _ (b : List ℕ) (c : Composition) (out : List ℕ) (p : After) (f : c ≡ compositionOf b) (g : p ≡ removed c (length out)) where
+  pub removal-is : p ≡ removalOn b out
+  unfolding removalOn
+  removal-is = rw (g, f) refl
 
-  pub pop-ready : (v : Bool) → v ≡ bytesSound b → not v ≡ false → p .comp ≡ holding (p .comp) (used (p .comp))
-  pop-ready v e t = tidy-as p (popStep b out) pop-is (pop-tidy b (ok-sound b v e t) out)
+  pub removal-ready : (v : Bool) → v ≡ bytesSound b → not v ≡ false → p .comp ≡ holding (p .comp) (used (p .comp))
+  removal-ready v e t = ready p (removalOn b out) removal-is (removal-step b (ok-sound b v e t) out)
 
 -- ---- undo
-module _ (b : List ℕ) (c : Composition) (l : ℕ) (raw : List ℕ) (k : Undone) (p : Changed) (f : c ≡ compositionOf b) (g : k ≡ undoTelex c l raw) (h : p ≡ undoneStep k) where
-  pub undo-is : p ≡ undoStep b l raw
-  unfolding undoStep
+module _ (b : List ℕ) (c : Composition) (l : ℕ) (raw : List ℕ) (k : Undone) (p : After) (f : c ≡ compositionOf b)
+    (g : k ≡ undoTelex c l raw) (h : p ≡ undoLeaving k) where
+  pub undo-is : p ≡ undoOn b l raw
+  unfolding undoOn
   undo-is = rw (h, g, f) refl
 
   pub undo-ready : (v : Bool) → v ≡ bytesSound b → not v ≡ false → p .comp ≡ holding (p .comp) (used (p .comp))
-  undo-ready v e t = tidy-as p (undoStep b l raw) undo-is (undo-step-tidy b (ok-sound b v e t) l raw)
+  undo-ready v e t = ready p (undoOn b l raw) undo-is (undo-step b (ok-sound b v e t) l raw)
 
 -- ---- the text
 module _ (b : List ℕ) (n : ℕ) (v : Bool) (e : v ≡ bytesSound b) where
@@ -138,46 +146,46 @@ both-refuse true = refl
 both-refuse false = refl
 
 module _ (b : List ℕ) (n : ℕ) (l : 1 < n) where
-  or-refused : (s : Changed) → Refused Unsound ≡ answerOn b (orUnsound b n s)
+  or-refused : (s : After) → Refused Unsound ≡ answerOn b (orUnsound b n s)
   unfolding answerOn orUnsound
   or-refused s = rw (lt-leb n 1 l) (both-refuse (bytesSound b))
 
-  or-kept : (s : Changed) → b ≡ bytesOn b (orUnsound b n s)
+  or-kept : (s : After) → b ≡ bytesOn b (orUnsound b n s)
   unfolding bytesOn
   or-kept s = rw (← or-refused s) refl
 
-  pub no-method : Refused Unsound ≡ answerOn b (methodStep b n)
-  unfolding methodStep
+  pub no-method : Refused Unsound ≡ answerOn b (methodOn b n)
+  unfolding methodOn
   no-method = or-refused _
 
-  pub no-method-bytes : b ≡ bytesOn b (methodStep b n)
-  unfolding methodStep
+  pub no-method-bytes : b ≡ bytesOn b (methodOn b n)
+  unfolding methodOn
   no-method-bytes = or-kept _
 
-  pub no-mode : Refused Unsound ≡ answerOn b (modeStep b n)
-  unfolding modeStep
+  pub no-mode : Refused Unsound ≡ answerOn b (modeOn b n)
+  unfolding modeOn
   no-mode = or-refused _
 
-  pub no-mode-bytes : b ≡ bytesOn b (modeStep b n)
-  unfolding modeStep
+  pub no-mode-bytes : b ≡ bytesOn b (modeOn b n)
+  unfolding modeOn
   no-mode-bytes = or-kept _
 
-module _ (b : List ℕ) (n : ℕ) (c : Composition) (p : Changed) (l : n ≤ 1) (f : c ≡ compositionOf b) where
+module _ (b : List ℕ) (n : ℕ) (c : Composition) (p : After) (l : n ≤ 1) (f : c ≡ compositionOf b) where
   module _ (m : InputMethod) (i : m ≡ methodOf n) (g : p ≡ methodSet c m) where
-    pub method-is : p ≡ methodStep b n
-    unfolding methodStep orUnsound
+    pub method-is : p ≡ methodOn b n
+    unfolding methodOn orUnsound
     method-is = rw (le-leb n 1 l, g, i, f) refl
 
     pub method-ready : (v : Bool) → v ≡ bytesSound b → not v ≡ false → p .comp ≡ holding (p .comp) (used (p .comp))
-    method-ready v e t = tidy-as p (methodStep b n) method-is (method-tidy b (ok-sound b v e t) n)
+    method-ready v e t = ready p (methodOn b n) method-is (method-step b (ok-sound b v e t) n)
 
   module _ (g : p ≡ enabledSet c (eqb n 0)) where
-    pub mode-is : p ≡ modeStep b n
-    unfolding modeStep orUnsound
+    pub mode-is : p ≡ modeOn b n
+    unfolding modeOn orUnsound
     mode-is = rw (le-leb n 1 l, g, f) refl
 
     pub mode-ready : (v : Bool) → v ≡ bytesSound b → not v ≡ false → p .comp ≡ holding (p .comp) (used (p .comp))
-    mode-ready v e t = tidy-as p (modeStep b n) mode-is (mode-tidy b (ok-sound b v e t) n)
+    mode-ready v e t = ready p (modeOn b n) mode-is (mode-step b (ok-sound b v e t) n)
 
 -- ---- a new composition
 module _ (b : List ℕ) (n : ℕ) where
@@ -202,9 +210,10 @@ module _ (b : List ℕ) (n : ℕ) where
     unfolding newOn
     new-done h = rw (eq-eqb (length b) size z, le-leb n 1 h) refl
 
-    pub new-done-bytes : (m : InputMethod) (c : Composition) (new : List ℕ) → n ≤ 1 → m ≡ methodOf n → c ≡ created m → new ≡ bytesOf c → new ≡ newBytes b n
+    pub new-done-bytes : (m : InputMethod) (c : Composition) (new : List ℕ) → n ≤ 1 → m ≡ methodOf n → c ≡ created m → new ≡ bytesOf c
+        → new ≡ newBytes b n
     unfolding newBytes
     new-done-bytes m c new h i f g = rw (← new-done h, ← i, ← f) g
 
 pub new-ready : (m : InputMethod) (c : Composition) → c ≡ created m → c ≡ holding c (used c)
-new-ready m c e = rw e (created-tidy m)
+new-ready m c e = rw e (holding-used (created m) (new-sound m))

@@ -1,130 +1,118 @@
 -- Every call leaves sound bytes where it finds them, and a new composition's are sound.
 use Prim.Native.Nat.{ℕ}
-use mathlib.Core.Path.{_≡_, ap, _∙_}
+use mathlib.Core.Path.{_≡_}
 use mathlib.Core.Bool.{true}
 use mathlib.Core.List.{List}
-use native.Mathlib.Omega.{arith}
 use lib.Dec.{eqb, leb}
 use lib.ListN.{length}
 use Rattle.p0_choice.proofs.Choices.{pick-both}
 use Rattle.p0_refusals.specs.declared.Answer.{Answer}
 use Rattle.p0_refusals.specs.declared.Answer.the-variants.{Done, Refused}
 use Rattle.p2_input_method.specs.declared.InputMethod.{InputMethod}
-use Rattle.p3_cells.specs.Cells.{limit, isSound, used}
-use Rattle.p3_cells.specs.declared.Changed.{Changed}
+use Rattle.p3_cells.specs.Cells.{isSound}
+use Rattle.p3_cells.specs.declared.After.{After}
 use Rattle.p3_cells.specs.declared.Composition.{Composition}
-use Rattle.p3_cells.proofs.Holding.{count-fits, length-holding}
-use Rattle.p3_calls.proofs.Kept.{new-sound, reset-sound, set-method-sound, set-enabled-sound, literal-sound, pop-sound}
+use Rattle.p3_calls.proofs.Kept.{new-sound, reset-sound, set-method-sound, set-enabled-sound, literal-sound, removal-sound}
 use Rattle.p3_calls.specs.Settings.{created}
 use Rattle.p3_key.proofs.Kept.{key-sound}
 use Rattle.p3_undo.proofs.Kept.{undo-sound}
 use Rattle.p6_bytes.specs.Bytes.{compositionOf, methodOf, bytesOf, bytesSound}
-use Rattle.p6_bytes.proofs.Reading.{read-full}
 use Rattle.p6_bytes.proofs.Round.{written-sound}
 use Rattle.p6_bytes.proofs.Sound.{sound-composition}
-use Rattle.p6_bytes.proofs.Writing.{tidy-count}
-use Rattle.p6_composition.specs.Steps.{undoneStep}
-use Rattle.p6_composition.specs.Calls.{answerOn, after, bytesOn, keyStep, resetStep, literalStep, popStep, undoStep, orUnsound, methodStep, modeStep, newOn, newBytes}
-use Rattle.p6_composition.proofs.Tidy.{Tidy, created-tidy, key-tidy, reset-tidy, literal-tidy, pop-tidy, undo-step-tidy, method-tidy, mode-tidy}
+use Rattle.p6_composition.specs.UndoAnswer.{undoLeaving}
+use Rattle.p6_composition.specs.Calls.{answerOn, bytesAfter, bytesOn, keyOn, resetOn, literalOn, removalOn, undoOn, orUnsound}
+use Rattle.p6_composition.specs.Calls.{methodOn, modeOn, newOn, newBytes}
 
--- a sound composition with blank cells past its count has all its places
-tidy-length : (d : Composition) → Tidy d → isSound d ≡ true → length (d .cells) ≡ limit
-tidy-length d t s =
-    let f = count-fits d s in
-    let n = tidy-count d t in
-    ap (λ (c : Composition). length (c .cells)) t ∙ length-holding d (used d) (omega arith)
-
-pub form-sound : (d : Composition) → Tidy d → isSound d ≡ true → bytesSound (bytesOf d) ≡ true
-form-sound d t s = written-sound d (tidy-length d t s) s
-
-after-sound : (a : Answer) (b : List ℕ) (d : Composition) → bytesSound b ≡ true → Tidy d → isSound d ≡ true → bytesSound (after a b d) ≡ true
-after-sound (Done n) b d h t s = form-sound d t s
-after-sound (Refused r) b d h t s = h
+after-sound : (a : Answer) (b : List ℕ) (d : Composition) → bytesSound b ≡ true → isSound d ≡ true → bytesSound (bytesAfter a b d) ≡ true
+after-sound (Done n) b d h s = written-sound d s
+after-sound (Refused r) b d h s = h
 
 module _ (b : List ℕ) (h : bytesSound b ≡ true) where
-  on-sound : (s : Changed) → Tidy (s .comp) → isSound (s .comp) ≡ true → bytesSound (bytesOn b s) ≡ true
+  on-sound : (s : After) → isSound (s .comp) ≡ true → bytesSound (bytesOn b s) ≡ true
   unfolding bytesOn
-  on-sound s t k = after-sound (answerOn b s) b (s .comp) h t k
+  on-sound s k = after-sound (answerOn b s) b (s .comp) h k
 
-  full : length (compositionOf b .cells) ≡ limit
-  full = read-full b
-
-  or-sound : (n : ℕ) (p : Changed) → isSound (p .comp) ≡ true → isSound (orUnsound b n p .comp) ≡ true
+  or-sound : (n : ℕ) (p : After) → isSound (p .comp) ≡ true → isSound (orUnsound b n p .comp) ≡ true
   unfolding orUnsound
-  or-sound n p e = pick-both (λ (q : Changed). isSound (q .comp) ≡ true) (leb n 1) p _ (λ l. e) (λ l. sound-composition b h)
+  or-sound n p e = pick-both (λ (q : After). isSound (q .comp) ≡ true) (leb n 1) p _ (λ l. e) (λ l. sound-composition b h)
 
   sound : isSound (compositionOf b) ≡ true
   sound = sound-composition b h
 
-  key-step : (key : ℕ) (out : List ℕ) → isSound (keyStep b key out .comp) ≡ true
-  unfolding keyStep
-  key-step key out = key-sound (compositionOf b) key (length out) sound full
+  pub key-step : (key : ℕ) (out : List ℕ) → isSound (keyOn b key out .comp) ≡ true
+  unfolding keyOn
+  key-step key out = key-sound (compositionOf b) key (length out) sound
 
-  reset-step : isSound (resetStep b .comp) ≡ true
-  unfolding resetStep
+  pub reset-step : isSound (resetOn b .comp) ≡ true
+  unfolding resetOn
   reset-step = reset-sound (compositionOf b) sound
 
-  literal-step : (l : ℕ) → isSound (literalStep b l .comp) ≡ true
-  unfolding literalStep
-  literal-step l = literal-sound (compositionOf b) sound full l
+  pub literal-step : (l : ℕ) → isSound (literalOn b l .comp) ≡ true
+  unfolding literalOn
+  literal-step l = literal-sound (compositionOf b) sound l
 
-  pop-step : (out : List ℕ) → isSound (popStep b out .comp) ≡ true
-  unfolding popStep
-  pop-step out = pop-sound (compositionOf b) sound full (length out)
+  pub removal-step : (out : List ℕ) → isSound (removalOn b out .comp) ≡ true
+  unfolding removalOn
+  removal-step out = removal-sound (compositionOf b) sound (length out)
 
-  undo-step : (t : ℕ) (raw : List ℕ) → isSound (undoStep b t raw .comp) ≡ true
-  unfolding undoStep undoneStep
-  undo-step t raw = undo-sound (compositionOf b) sound full t raw
+  pub undo-step : (t : ℕ) (raw : List ℕ) → isSound (undoOn b t raw .comp) ≡ true
+  unfolding undoOn undoLeaving
+  undo-step t raw = undo-sound (compositionOf b) sound t raw
 
-  method-step : (m : ℕ) → isSound (methodStep b m .comp) ≡ true
-  unfolding methodStep
+  pub method-step : (m : ℕ) → isSound (methodOn b m .comp) ≡ true
+  unfolding methodOn
   method-step m = or-sound m _ (set-method-sound (compositionOf b) sound (methodOf m))
 
-  mode-step : (o : ℕ) → isSound (modeStep b o .comp) ≡ true
-  unfolding modeStep
+  pub mode-step : (o : ℕ) → isSound (modeOn b o .comp) ≡ true
+  unfolding modeOn
   mode-step o = or-sound o _ (set-enabled-sound (compositionOf b) sound (eqb o 0))
 
-  pub key-kept : (key : ℕ) (out : List ℕ) → bytesSound (bytesOn b (keyStep b key out)) ≡ true
-  key-kept key out = on-sound (keyStep b key out) (key-tidy b h key out) (key-step key out)
+  pub key-kept : (key : ℕ) (out : List ℕ) → bytesSound (bytesOn b (keyOn b key out)) ≡ true
+  key-kept key out = on-sound (keyOn b key out) (key-step key out)
 
-  pub reset-kept : bytesSound (bytesOn b (resetStep b)) ≡ true
-  reset-kept = on-sound (resetStep b) (reset-tidy b h) reset-step
+  pub reset-kept : bytesSound (bytesOn b (resetOn b)) ≡ true
+  reset-kept = on-sound (resetOn b) reset-step
 
-  pub literal-kept : (l : ℕ) → bytesSound (bytesOn b (literalStep b l)) ≡ true
-  literal-kept l = on-sound (literalStep b l) (literal-tidy b h l) (literal-step l)
+  pub literal-kept : (l : ℕ) → bytesSound (bytesOn b (literalOn b l)) ≡ true
+  literal-kept l = on-sound (literalOn b l) (literal-step l)
 
-  pub pop-kept : (out : List ℕ) → bytesSound (bytesOn b (popStep b out)) ≡ true
-  pop-kept out = on-sound (popStep b out) (pop-tidy b h out) (pop-step out)
+  pub removal-kept : (out : List ℕ) → bytesSound (bytesOn b (removalOn b out)) ≡ true
+  removal-kept out = on-sound (removalOn b out) (removal-step out)
 
-  pub undo-kept : (t : ℕ) (raw : List ℕ) → bytesSound (bytesOn b (undoStep b t raw)) ≡ true
-  undo-kept t raw = on-sound (undoStep b t raw) (undo-step-tidy b h t raw) (undo-step t raw)
+  pub undo-kept : (t : ℕ) (raw : List ℕ) → bytesSound (bytesOn b (undoOn b t raw)) ≡ true
+  undo-kept t raw = on-sound (undoOn b t raw) (undo-step t raw)
 
-  pub method-kept : (m : ℕ) → bytesSound (bytesOn b (methodStep b m)) ≡ true
-  method-kept m = on-sound (methodStep b m) (method-tidy b h m) (method-step m)
+  pub method-kept : (m : ℕ) → bytesSound (bytesOn b (methodOn b m)) ≡ true
+  method-kept m = on-sound (methodOn b m) (method-step m)
 
-  pub mode-kept : (o : ℕ) → bytesSound (bytesOn b (modeStep b o)) ≡ true
-  mode-kept o = on-sound (modeStep b o) (mode-tidy b h o) (mode-step o)
+  pub mode-kept : (o : ℕ) → bytesSound (bytesOn b (modeOn b o)) ≡ true
+  mode-kept o = on-sound (modeOn b o) (mode-step o)
 
 pub new-made : (m : InputMethod) → bytesSound (bytesOf (created m)) ≡ true
-new-made m = form-sound (created m) (created-tidy m) (new-sound m)
+new-made m = written-sound (created m) (new-sound m)
+
+-- whatever the bytes were before it
+pub new-makes-sound : (b : List ℕ) (m n : ℕ) → newOn b m ≡ Done n → bytesSound (newBytes b m) ≡ true
+unfolding newBytes
+new-makes-sound b m n e = rw e (new-made (methodOf m))
 
 -- ---- every call on a composition, by name: what it leaves of the bytes b
 pub data Leaves (b : List ℕ) : List ℕ → Type 0 where
   byNew : (m : ℕ) → Leaves b (newBytes b m)
-  byKey : (key : ℕ) (out : List ℕ) → Leaves b (bytesOn b (keyStep b key out))
+  byKey : (key : ℕ) (out : List ℕ) → Leaves b (bytesOn b (keyOn b key out))
   byText : Leaves b b
-  byLiteral : (l : ℕ) → Leaves b (bytesOn b (literalStep b l))
-  byRemoval : (out : List ℕ) → Leaves b (bytesOn b (popStep b out))
-  byUndo : (t : ℕ) (raw : List ℕ) → Leaves b (bytesOn b (undoStep b t raw))
-  byReset : Leaves b (bytesOn b (resetStep b))
-  byMethod : (m : ℕ) → Leaves b (bytesOn b (methodStep b m))
-  byMode : (o : ℕ) → Leaves b (bytesOn b (modeStep b o))
+  byLiteral : (l : ℕ) → Leaves b (bytesOn b (literalOn b l))
+  byRemoval : (out : List ℕ) → Leaves b (bytesOn b (removalOn b out))
+  byUndo : (t : ℕ) (raw : List ℕ) → Leaves b (bytesOn b (undoOn b t raw))
+  byReset : Leaves b (bytesOn b (resetOn b))
+  byMethod : (m : ℕ) → Leaves b (bytesOn b (methodOn b m))
+  byMode : (o : ℕ) → Leaves b (bytesOn b (modeOn b o))
 
 new-kept : (b : List ℕ) → bytesSound b ≡ true → (m : ℕ) → bytesSound (newBytes b m) ≡ true
 unfolding newBytes
 new-kept b h m = go (newOn b m)
   where
-    go : (a : Answer) → bytesSound (after a b (created (methodOf m))) ≡ true
+    go : (a : Answer) → bytesSound (bytesAfter a b (created (methodOf m))) ≡ true
     go (Done n) = new-made (methodOf m)
     go (Refused r) = h
 
@@ -134,7 +122,7 @@ calls-keep-sound b h (byNew m) = new-kept b h m
 calls-keep-sound b h (byKey key out) = key-kept b h key out
 calls-keep-sound b h byText = h
 calls-keep-sound b h (byLiteral l) = literal-kept b h l
-calls-keep-sound b h (byRemoval out) = pop-kept b h out
+calls-keep-sound b h (byRemoval out) = removal-kept b h out
 calls-keep-sound b h (byUndo t raw) = undo-kept b h t raw
 calls-keep-sound b h byReset = reset-kept b h
 calls-keep-sound b h (byMethod m) = method-kept b h m

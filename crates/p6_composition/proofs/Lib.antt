@@ -1,5 +1,6 @@
-pub mod Steps
-pub mod Tidy
-pub mod Calls
+pub mod UndoAnswer
 pub mod Kept
+pub mod Calls
 pub mod Counted
+pub mod Only
+pub mod Back

@@ -2,17 +2,18 @@
 // makes the call by value, and where that is done writes the composition back; after a refusal not a byte has changed.
 ghost use mathlib.Core.Path.{_≡_};
 ghost use lib.ListN.{length};
-ghost use Rattle.p3_calls.specs.Output.{textOutcome, popOutcome};
+ghost use Rattle.p3_calls.specs.Output.{textOutcome, removalOutcome};
 ghost use Rattle.p3_cells.specs.Cells.{used, holding};
 ghost use Rattle.p3_key.specs.Process.{keyOutcome};
 ghost use Rattle.p6_bytes.specs.Bytes.{size, compositionOf, methodOf};
-ghost use Rattle.p6_composition.specs.Steps.{undoAnswer, undoneStep};
-ghost use Rattle.p6_composition.specs.Calls.{answerOn, after, bytesOn, outOn, keyStep, resetStep, literalStep, popStep, undoStep, methodStep, modeStep, textOn, newOn, newBytes};
+ghost use Rattle.p6_composition.specs.UndoAnswer.{undoAnswer, undoLeaving};
+ghost use Rattle.p6_composition.specs.Calls.{answerOn, bytesAfter, bytesOn, outOn, keyOn, resetOn, literalOn, removalOn, undoOn};
+ghost use Rattle.p6_composition.specs.Calls.{methodOn, modeOn, textOn, newOn, newBytes};
 use p0_refusals::Answer;
 use p0_refusals::Refusal;
 use p2_input_method::InputMethod;
 use p3_calls as calls;
-use p3_cells::Changed;
+use p3_cells::After;
 use p3_undo::TelexUndo;
 use p3_undo::Undone;
 use p6_bytes as bytes;
@@ -29,19 +30,19 @@ fn undo_answer(u: TelexUndo) -> Answer
     }
 }
 
-fn undone_step(k: Undone) -> Changed
-    ensures { λ r. ⌜ r ≡ undoneStep k ⌝ }
+fn undo_leaving(k: Undone) -> After
+    ensures { λ r. ⌜ r ≡ undoLeaving k ⌝ }
 {
     let d = k.comp;
     let a = k.answer;
     let answer = undo_answer(a);
-    Changed { comp: d, answer }
+    After { comp: d, answer }
 }
 
 // Writes the composition back where the call is done.
-fn finish(k: Changed, state: &mut [u8]) -> Answer
+fn finish(k: After, state: &mut [u8]) -> Answer
     requires { ⌜ (length (now state) ≡ size) × (k .comp ≡ holding (k .comp) (used (k .comp))) ⌝ }
-    ensures { λ r. ⌜ (r ≡ k .answer) × (now (state .exit) ≡ after (k .answer) (now (state .entry)) (k .comp)) ⌝ }
+    ensures { λ r. ⌜ (r ≡ k .answer) × (now (state .exit) ≡ bytesAfter (k .answer) (now (state .entry)) (k .comp)) ⌝ }
 {
     let a = k.answer;
     match a {
@@ -55,8 +56,8 @@ fn finish(k: Changed, state: &mut [u8]) -> Answer
 }
 
 pub fn process_key(state: &mut [u8], key: u32, out: &mut [u32]) -> Answer
-    ensures { λ r. ⌜ (r ≡ answerOn (now (state .entry)) (keyStep (now (state .entry)) key (now (out .entry))))
-        × (now (state .exit) ≡ bytesOn (now (state .entry)) (keyStep (now (state .entry)) key (now (out .entry))))
+    ensures { λ r. ⌜ (r ≡ answerOn (now (state .entry)) (keyOn (now (state .entry)) key (now (out .entry))))
+        × (now (state .exit) ≡ bytesOn (now (state .entry)) (keyOn (now (state .entry)) key (now (out .entry))))
         × (now (out .exit) ≡ outOn (now (state .entry)) (keyOutcome (compositionOf (now (state .entry))) key) (now (out .entry))) ⌝ }
 {
     if !bytes::bytes_ok(state) {
@@ -68,8 +69,8 @@ pub fn process_key(state: &mut [u8], key: u32, out: &mut [u32]) -> Answer
 }
 
 pub fn reset(state: &mut [u8]) -> Answer
-    ensures { λ r. ⌜ (r ≡ answerOn (now (state .entry)) (resetStep (now (state .entry))))
-        × (now (state .exit) ≡ bytesOn (now (state .entry)) (resetStep (now (state .entry)))) ⌝ }
+    ensures { λ r. ⌜ (r ≡ answerOn (now (state .entry)) (resetOn (now (state .entry))))
+        × (now (state .exit) ≡ bytesOn (now (state .entry)) (resetOn (now (state .entry)))) ⌝ }
 {
     if !bytes::bytes_ok(state) {
         return Answer::Refused(Refusal::Unsound);
@@ -80,8 +81,8 @@ pub fn reset(state: &mut [u8]) -> Answer
 }
 
 pub fn append_literal(state: &mut [u8], letter: u32) -> Answer
-    ensures { λ r. ⌜ (r ≡ answerOn (now (state .entry)) (literalStep (now (state .entry)) letter))
-        × (now (state .exit) ≡ bytesOn (now (state .entry)) (literalStep (now (state .entry)) letter)) ⌝ }
+    ensures { λ r. ⌜ (r ≡ answerOn (now (state .entry)) (literalOn (now (state .entry)) letter))
+        × (now (state .exit) ≡ bytesOn (now (state .entry)) (literalOn (now (state .entry)) letter)) ⌝ }
 {
     if !bytes::bytes_ok(state) {
         return Answer::Refused(Refusal::Unsound);
@@ -92,9 +93,9 @@ pub fn append_literal(state: &mut [u8], letter: u32) -> Answer
 }
 
 pub fn pop_last(state: &mut [u8], out: &mut [u32]) -> Answer
-    ensures { λ r. ⌜ (r ≡ answerOn (now (state .entry)) (popStep (now (state .entry)) (now (out .entry))))
-        × (now (state .exit) ≡ bytesOn (now (state .entry)) (popStep (now (state .entry)) (now (out .entry))))
-        × (now (out .exit) ≡ outOn (now (state .entry)) (popOutcome (compositionOf (now (state .entry)))) (now (out .entry))) ⌝ }
+    ensures { λ r. ⌜ (r ≡ answerOn (now (state .entry)) (removalOn (now (state .entry)) (now (out .entry))))
+        × (now (state .exit) ≡ bytesOn (now (state .entry)) (removalOn (now (state .entry)) (now (out .entry))))
+        × (now (out .exit) ≡ outOn (now (state .entry)) (removalOutcome (compositionOf (now (state .entry)))) (now (out .entry))) ⌝ }
 {
     if !bytes::bytes_ok(state) {
         return Answer::Refused(Refusal::Unsound);
@@ -105,15 +106,15 @@ pub fn pop_last(state: &mut [u8], out: &mut [u32]) -> Answer
 }
 
 pub fn undo_telex_transform(state: &mut [u8], trigger: u32, raw: &[u32]) -> Answer
-    ensures { λ r. ⌜ (r ≡ answerOn (now (state .entry)) (undoStep (now (state .entry)) trigger (now (raw .entry))))
-        × (now (state .exit) ≡ bytesOn (now (state .entry)) (undoStep (now (state .entry)) trigger (now (raw .entry)))) ⌝ }
+    ensures { λ r. ⌜ (r ≡ answerOn (now (state .entry)) (undoOn (now (state .entry)) trigger (now (raw .entry))))
+        × (now (state .exit) ≡ bytesOn (now (state .entry)) (undoOn (now (state .entry)) trigger (now (raw .entry)))) ⌝ }
 {
     if !bytes::bytes_ok(state) {
         return Answer::Refused(Refusal::Unsound);
     }
     let c = bytes::decode(state);
     let u = p3_undo::undo_telex_transform(c, trigger, raw);
-    let k = undone_step(u);
+    let k = undo_leaving(u);
     finish(k, state)
 }
 
@@ -140,8 +141,8 @@ pub fn method_of(method: u32) -> InputMethod
 }
 
 pub fn set_method(state: &mut [u8], method: u32) -> Answer
-    ensures { λ r. ⌜ (r ≡ answerOn (now (state .entry)) (methodStep (now (state .entry)) method))
-        × (now (state .exit) ≡ bytesOn (now (state .entry)) (methodStep (now (state .entry)) method)) ⌝ }
+    ensures { λ r. ⌜ (r ≡ answerOn (now (state .entry)) (methodOn (now (state .entry)) method))
+        × (now (state .exit) ≡ bytesOn (now (state .entry)) (methodOn (now (state .entry)) method)) ⌝ }
 {
     if !bytes::bytes_ok(state) {
         return Answer::Refused(Refusal::Unsound);
@@ -156,8 +157,8 @@ pub fn set_method(state: &mut [u8], method: u32) -> Answer
 }
 
 pub fn set_mode(state: &mut [u8], mode: u32) -> Answer
-    ensures { λ r. ⌜ (r ≡ answerOn (now (state .entry)) (modeStep (now (state .entry)) mode))
-        × (now (state .exit) ≡ bytesOn (now (state .entry)) (modeStep (now (state .entry)) mode)) ⌝ }
+    ensures { λ r. ⌜ (r ≡ answerOn (now (state .entry)) (modeOn (now (state .entry)) mode))
+        × (now (state .exit) ≡ bytesOn (now (state .entry)) (modeOn (now (state .entry)) mode)) ⌝ }
 {
     if !bytes::bytes_ok(state) {
         return Answer::Refused(Refusal::Unsound);

@@ -12,11 +12,11 @@ use Rattle.p4_spelling.specs.Cut.{onsetOf, vowelsOf, codaOf}
 use Rattle.p4_spelling.proofs.Answers.{onset-at, vowels-at, coda-at}
 use Rattle.p4_spelling.specs.declared.Cut.{Cut}
 use Rattle.p4_spelling.specs.declared.Cut.the-variants as Cuts
-use Rattle.p4_spelling.specs.declared.Places.{Places}
+use Rattle.p4_spelling.specs.declared.CutPlaces.{CutPlaces}
 use Rattle.p6_cut.specs.Cut.{placesAt, placesAfter}
 
 module _ (w : Word) (g : Cut) (e : g ≡ cutAnswer w) where
-  pub cut-places : (p : Places) → g ≡ Cuts.At p → p ≡ placesAfter w
+  pub cut-places : (p : CutPlaces) → g ≡ Cuts.At p → p ≡ placesAfter w
   unfolding placesAfter
   cut-places p h = rw (← e, h) refl
 

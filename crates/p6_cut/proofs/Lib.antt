@@ -1,2 +1,3 @@
 pub mod CutPlaces
 pub mod Parts
+pub mod Only

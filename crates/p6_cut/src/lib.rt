@@ -5,7 +5,7 @@ ghost use Rattle.p4_spelling.specs.Answers.{onsetPart, vowelsPart, codaPart};
 ghost use Rattle.p6_cut.specs.Cut.{placesAt, placesAfter};
 use p4_spelling as spelling;
 use p4_spelling::Cut;
-use p4_spelling::Places;
+use p4_spelling::CutPlaces;
 
 pub struct CutWord<'a> {
     pub word: &'a [u32],
@@ -14,14 +14,14 @@ pub struct CutWord<'a> {
 }
 
 // The places of a word's cut. A refused word is cut past its end, so that all its parts are empty.
-pub fn places_of(word: &[u32]) -> Places
+pub fn places_of(word: &[u32]) -> CutPlaces
     ensures { λ r. ⌜ r ≡ placesAfter (now (word .entry)) ⌝ }
 {
     let past = word.len() + 1;
     let given = spelling::partition(word);
     match given {
         Cut::At(places) => places,
-        Cut::Refused(_) => Places {
+        Cut::Refused(_) => CutPlaces {
             onset: past,
             vowels: past,
         },
@@ -33,7 +33,7 @@ pub fn onset_between<'a>(word: &'a [u32], onset_end: usize, vowels_end: usize) -
 {
     spelling::onset_part(
         word,
-        Places {
+        CutPlaces {
             onset: onset_end,
             vowels: vowels_end,
         },
@@ -45,7 +45,7 @@ pub fn vowels_between<'a>(word: &'a [u32], onset_end: usize, vowels_end: usize) 
 {
     spelling::vowels_part(
         word,
-        Places {
+        CutPlaces {
             onset: onset_end,
             vowels: vowels_end,
         },
@@ -57,7 +57,7 @@ pub fn coda_between<'a>(word: &'a [u32], onset_end: usize, vowels_end: usize) ->
 {
     spelling::coda_part(
         word,
-        Places {
+        CutPlaces {
             onset: onset_end,
             vowels: vowels_end,
         },
@@ -65,7 +65,8 @@ pub fn coda_between<'a>(word: &'a [u32], onset_end: usize, vowels_end: usize) ->
 }
 
 pub fn cut<'a>(word: &'a [u32]) -> CutWord<'a>
-    ensures { λ r. ⌜ (r .word ≡ word .entry) × (r .«onset_end» ≡ placesAfter (now (word .entry)) .onset) × (r .«vowels_end» ≡ placesAfter (now (word .entry)) .vowels) ⌝ }
+    ensures { λ r. ⌜ (r .word ≡ word .entry) × (r .«onset_end» ≡ placesAfter (now (word .entry)) .onset)
+        × (r .«vowels_end» ≡ placesAfter (now (word .entry)) .vowels) ⌝ }
 {
     let at = places_of(word);
     CutWord {

@@ -12,5 +12,11 @@ use Rattle.p6_host.proofs.Told.{told-number, told-count}
 pub told : (Means : Outcome → Type 0) (o : List ℕ) (g : Answer) (out : List ℕ) (r k old : ℕ) → Answers Means o g out
     → (r ≡ refusalOf g) × (k ≡ countOut g old)
     → (u : Outcome) × Means u × (r ≡ refusalOf (answer u (length o))) × (out ≡ output u o) × (k ≡ countOut (answer u (length o)) old)
-told Means o g out r k old a t =
-    (a .0, a .1, told-number g (answer (a .0) (length o)) r (a .2) (t .0), a .3, told-count g (answer (a .0) (length o)) k old (a .2) (t .1))
+told Means o g out r k old a t = (
+  a .0,
+  a .1,
+  told-number g (answer (a .0) (length o)) r (a .2) (t .0),
+  a .3,
+  told-count g (answer (a .0) (length o)) k old (a .2)
+      (t .1),
+)

@@ -17,5 +17,5 @@ pub told-behaviour : (g a : Answer) (n old : ℕ) → g ≡ a → n ≡ behaviou
 told-behaviour g a n old e h = rw e at h
 
 -- ---- what an undo's answer says of the trigger
-pub consumes : (g : Answer) (n old : ℕ) → g ≡ Done n → (n ≡ 0 → ⊥) → 1 ≡ behaviourOut g old
-consumes g n old e h = rw (e, ne-eqb n 0 h) refl
+pub told-consumes : (g : Answer) (n old : ℕ) → g ≡ Done n → (n ≡ 0 → ⊥) → 1 ≡ behaviourOut g old
+told-consumes g n old e h = rw (e, ne-eqb n 0 h) refl

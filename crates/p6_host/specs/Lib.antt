@@ -3,3 +3,4 @@ pub mod MethodCalls
 pub mod CompositionCalls
 pub mod SpellerCalls
 pub mod Counts
+pub mod Header

@@ -1,11 +1,12 @@
-// A composition, in 264 bytes of the host (port order 3); docs/BYTES.md states their order.
+// A composition, in bytes of the host (port order 3); docs/BYTES.md states their order.
 ghost use mathlib.Core.Path.{_≡_};
 ghost use lib.ListN.{length};
 ghost use Rattle.p0_refusals.specs.Answers.{refusalOf};
-ghost use Rattle.p3_calls.specs.Output.{textOutcome, popOutcome};
+ghost use Rattle.p3_calls.specs.Output.{textOutcome, removalOutcome};
 ghost use Rattle.p3_key.specs.Process.{keyOutcome};
 ghost use Rattle.p6_bytes.specs.Bytes.{size, methodByte, modeByte, compositionOf};
-ghost use Rattle.p6_composition.specs.Calls.{answerOn, bytesOn, outOn, keyStep, resetStep, literalStep, popStep, undoStep, methodStep, modeStep, textOn, newOn, newBytes};
+ghost use Rattle.p6_composition.specs.Calls.{answerOn, bytesOn, outOn, keyOn, resetOn, literalOn, removalOn, undoOn, methodOn, modeOn};
+ghost use Rattle.p6_composition.specs.Calls.{textOn, newOn, newBytes};
 ghost use Rattle.p6_host.specs.Counts.{countOut, behaviourOut};
 ghost use Rattle.p6_host.specs.CompositionCalls.{soundCode, soundOut};
 use crate::answers::tell;
@@ -43,7 +44,9 @@ pub extern "C" fn pasdrongel_check_composition(state: &[u8]) -> u32
 
 #[no_mangle]
 pub extern "C" fn pasdrongel_method(state: &[u8], method: &mut u32) -> u32
-    ensures { λ r. ⌜ (r ≡ soundCode (now (state .entry))) × (now (method .exit) ≡ soundOut (now (state .entry)) (methodByte (compositionOf (now (state .entry)) .method)) (now (method .entry))) ⌝ }
+    ensures { λ r. ⌜ (r ≡ soundCode (now (state .entry)))
+        × (now (method .exit) ≡ soundOut (now (state .entry)) (methodByte (compositionOf (now (state .entry)) .method))
+        (now (method .entry))) ⌝ }
 {
     if !p6_bytes::bytes_ok(state) {
         return number(Refusal::Unsound);
@@ -54,7 +57,8 @@ pub extern "C" fn pasdrongel_method(state: &[u8], method: &mut u32) -> u32
 
 #[no_mangle]
 pub extern "C" fn pasdrongel_mode(state: &[u8], mode: &mut u32) -> u32
-    ensures { λ r. ⌜ (r ≡ soundCode (now (state .entry))) × (now (mode .exit) ≡ soundOut (now (state .entry)) (modeByte (compositionOf (now (state .entry)) .mode)) (now (mode .entry))) ⌝ }
+    ensures { λ r. ⌜ (r ≡ soundCode (now (state .entry)))
+        × (now (mode .exit) ≡ soundOut (now (state .entry)) (modeByte (compositionOf (now (state .entry)) .mode)) (now (mode .entry))) ⌝ }
 {
     if !p6_bytes::bytes_ok(state) {
         return number(Refusal::Unsound);
@@ -65,7 +69,8 @@ pub extern "C" fn pasdrongel_mode(state: &[u8], mode: &mut u32) -> u32
 
 #[no_mangle]
 pub extern "C" fn pasdrongel_count(state: &[u8], count: &mut usize) -> u32
-    ensures { λ r. ⌜ (r ≡ soundCode (now (state .entry))) × (now (count .exit) ≡ soundOut (now (state .entry)) (compositionOf (now (state .entry)) .count) (now (count .entry))) ⌝ }
+    ensures { λ r. ⌜ (r ≡ soundCode (now (state .entry)))
+        × (now (count .exit) ≡ soundOut (now (state .entry)) (compositionOf (now (state .entry)) .count) (now (count .entry))) ⌝ }
 {
     if !p6_bytes::bytes_ok(state) {
         return number(Refusal::Unsound);
@@ -81,10 +86,12 @@ pub extern "C" fn pasdrongel_key(
     text: &mut [u32],
     count: &mut usize,
 ) -> u32
-    ensures { λ r. ⌜ r ≡ refusalOf (answerOn (now (state .entry)) (keyStep (now (state .entry)) key (now (text .entry)))) ⌝ }
-    ensures { λ r. ⌜ now (state .exit) ≡ bytesOn (now (state .entry)) (keyStep (now (state .entry)) key (now (text .entry))) ⌝ }
-    ensures { λ r. ⌜ now (text .exit) ≡ outOn (now (state .entry)) (keyOutcome (compositionOf (now (state .entry))) key) (now (text .entry)) ⌝ }
-    ensures { λ r. ⌜ now (count .exit) ≡ countOut (answerOn (now (state .entry)) (keyStep (now (state .entry)) key (now (text .entry)))) (now (count .entry)) ⌝ }
+    ensures { λ r. ⌜ r ≡ refusalOf (answerOn (now (state .entry)) (keyOn (now (state .entry)) key (now (text .entry)))) ⌝ }
+    ensures { λ r. ⌜ now (state .exit) ≡ bytesOn (now (state .entry)) (keyOn (now (state .entry)) key (now (text .entry))) ⌝ }
+    ensures { λ r. ⌜ now (text .exit) ≡ outOn (now (state .entry)) (keyOutcome (compositionOf (now (state .entry))) key)
+        (now (text .entry)) ⌝ }
+    ensures { λ r. ⌜ now (count .exit) ≡ countOut (answerOn (now (state .entry)) (keyOn (now (state .entry)) key (now (text .entry))))
+        (now (count .entry)) ⌝ }
 {
     let given = p6_composition::process_key(state, key, text);
     tell(given, count)
@@ -93,7 +100,8 @@ pub extern "C" fn pasdrongel_key(
 #[no_mangle]
 pub extern "C" fn pasdrongel_text(state: &[u8], text: &mut [u32], count: &mut usize) -> u32
     ensures { λ r. ⌜ r ≡ refusalOf (textOn (now (state .entry)) (length (now (text .entry)))) ⌝ }
-    ensures { λ r. ⌜ now (text .exit) ≡ outOn (now (state .entry)) (textOutcome (compositionOf (now (state .entry)))) (now (text .entry)) ⌝ }
+    ensures { λ r. ⌜ now (text .exit) ≡ outOn (now (state .entry)) (textOutcome (compositionOf (now (state .entry))))
+        (now (text .entry)) ⌝ }
     ensures { λ r. ⌜ now (count .exit) ≡ countOut (textOn (now (state .entry)) (length (now (text .entry)))) (now (count .entry)) ⌝ }
 {
     let given = p6_composition::get_output(state, text);
@@ -102,8 +110,8 @@ pub extern "C" fn pasdrongel_text(state: &[u8], text: &mut [u32], count: &mut us
 
 #[no_mangle]
 pub extern "C" fn pasdrongel_literal(state: &mut [u8], letter: u32) -> u32
-    ensures { λ r. ⌜ r ≡ refusalOf (answerOn (now (state .entry)) (literalStep (now (state .entry)) letter)) ⌝ }
-    ensures { λ r. ⌜ now (state .exit) ≡ bytesOn (now (state .entry)) (literalStep (now (state .entry)) letter) ⌝ }
+    ensures { λ r. ⌜ r ≡ refusalOf (answerOn (now (state .entry)) (literalOn (now (state .entry)) letter)) ⌝ }
+    ensures { λ r. ⌜ now (state .exit) ≡ bytesOn (now (state .entry)) (literalOn (now (state .entry)) letter) ⌝ }
 {
     let given = p6_composition::append_literal(state, letter);
     refusal_of(given)
@@ -115,10 +123,12 @@ pub extern "C" fn pasdrongel_remove_last(
     text: &mut [u32],
     count: &mut usize,
 ) -> u32
-    ensures { λ r. ⌜ r ≡ refusalOf (answerOn (now (state .entry)) (popStep (now (state .entry)) (now (text .entry)))) ⌝ }
-    ensures { λ r. ⌜ now (state .exit) ≡ bytesOn (now (state .entry)) (popStep (now (state .entry)) (now (text .entry))) ⌝ }
-    ensures { λ r. ⌜ now (text .exit) ≡ outOn (now (state .entry)) (popOutcome (compositionOf (now (state .entry)))) (now (text .entry)) ⌝ }
-    ensures { λ r. ⌜ now (count .exit) ≡ countOut (answerOn (now (state .entry)) (popStep (now (state .entry)) (now (text .entry)))) (now (count .entry)) ⌝ }
+    ensures { λ r. ⌜ r ≡ refusalOf (answerOn (now (state .entry)) (removalOn (now (state .entry)) (now (text .entry)))) ⌝ }
+    ensures { λ r. ⌜ now (state .exit) ≡ bytesOn (now (state .entry)) (removalOn (now (state .entry)) (now (text .entry))) ⌝ }
+    ensures { λ r. ⌜ now (text .exit) ≡ outOn (now (state .entry)) (removalOutcome (compositionOf (now (state .entry))))
+        (now (text .entry)) ⌝ }
+    ensures { λ r. ⌜ now (count .exit) ≡ countOut (answerOn (now (state .entry)) (removalOn (now (state .entry)) (now (text .entry))))
+        (now (count .entry)) ⌝ }
 {
     let given = p6_composition::pop_last(state, text);
     tell(given, count)
@@ -131,9 +141,10 @@ pub extern "C" fn pasdrongel_undo(
     raw: &[u32],
     behaviour: &mut u32,
 ) -> u32
-    ensures { λ r. ⌜ r ≡ refusalOf (answerOn (now (state .entry)) (undoStep (now (state .entry)) trigger (now (raw .entry)))) ⌝ }
-    ensures { λ r. ⌜ now (state .exit) ≡ bytesOn (now (state .entry)) (undoStep (now (state .entry)) trigger (now (raw .entry))) ⌝ }
-    ensures { λ r. ⌜ now (behaviour .exit) ≡ behaviourOut (answerOn (now (state .entry)) (undoStep (now (state .entry)) trigger (now (raw .entry)))) (now (behaviour .entry)) ⌝ }
+    ensures { λ r. ⌜ r ≡ refusalOf (answerOn (now (state .entry)) (undoOn (now (state .entry)) trigger (now (raw .entry)))) ⌝ }
+    ensures { λ r. ⌜ now (state .exit) ≡ bytesOn (now (state .entry)) (undoOn (now (state .entry)) trigger (now (raw .entry))) ⌝ }
+    ensures { λ r. ⌜ now (behaviour .exit) ≡ behaviourOut
+        (answerOn (now (state .entry)) (undoOn (now (state .entry)) trigger (now (raw .entry)))) (now (behaviour .entry)) ⌝ }
 {
     let given = p6_composition::undo_telex_transform(state, trigger, raw);
     tell_behaviour(given, behaviour)
@@ -141,8 +152,8 @@ pub extern "C" fn pasdrongel_undo(
 
 #[no_mangle]
 pub extern "C" fn pasdrongel_reset(state: &mut [u8]) -> u32
-    ensures { λ r. ⌜ r ≡ refusalOf (answerOn (now (state .entry)) (resetStep (now (state .entry)))) ⌝ }
-    ensures { λ r. ⌜ now (state .exit) ≡ bytesOn (now (state .entry)) (resetStep (now (state .entry))) ⌝ }
+    ensures { λ r. ⌜ r ≡ refusalOf (answerOn (now (state .entry)) (resetOn (now (state .entry)))) ⌝ }
+    ensures { λ r. ⌜ now (state .exit) ≡ bytesOn (now (state .entry)) (resetOn (now (state .entry))) ⌝ }
 {
     let given = p6_composition::reset(state);
     refusal_of(given)
@@ -150,8 +161,8 @@ pub extern "C" fn pasdrongel_reset(state: &mut [u8]) -> u32
 
 #[no_mangle]
 pub extern "C" fn pasdrongel_set_method(state: &mut [u8], method: u32) -> u32
-    ensures { λ r. ⌜ r ≡ refusalOf (answerOn (now (state .entry)) (methodStep (now (state .entry)) method)) ⌝ }
-    ensures { λ r. ⌜ now (state .exit) ≡ bytesOn (now (state .entry)) (methodStep (now (state .entry)) method) ⌝ }
+    ensures { λ r. ⌜ r ≡ refusalOf (answerOn (now (state .entry)) (methodOn (now (state .entry)) method)) ⌝ }
+    ensures { λ r. ⌜ now (state .exit) ≡ bytesOn (now (state .entry)) (methodOn (now (state .entry)) method) ⌝ }
 {
     let given = p6_composition::set_method(state, method);
     refusal_of(given)
@@ -159,8 +170,8 @@ pub extern "C" fn pasdrongel_set_method(state: &mut [u8], method: u32) -> u32
 
 #[no_mangle]
 pub extern "C" fn pasdrongel_set_mode(state: &mut [u8], mode: u32) -> u32
-    ensures { λ r. ⌜ r ≡ refusalOf (answerOn (now (state .entry)) (modeStep (now (state .entry)) mode)) ⌝ }
-    ensures { λ r. ⌜ now (state .exit) ≡ bytesOn (now (state .entry)) (modeStep (now (state .entry)) mode) ⌝ }
+    ensures { λ r. ⌜ r ≡ refusalOf (answerOn (now (state .entry)) (modeOn (now (state .entry)) mode)) ⌝ }
+    ensures { λ r. ⌜ now (state .exit) ≡ bytesOn (now (state .entry)) (modeOn (now (state .entry)) mode) ⌝ }
 {
     let given = p6_composition::set_mode(state, mode);
     refusal_of(given)

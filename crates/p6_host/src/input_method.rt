@@ -12,7 +12,8 @@ use p6_composition::method_of;
 
 #[no_mangle]
 pub extern "C" fn pasdrongel_is_tone_key(method: u32, key: u32, yes: &mut u32) -> u32
-    ensures { λ r. ⌜ (r ≡ keyCode method key) × (now (yes .exit) ≡ keyOut method key (flagOf (isToneKey (methodOf method) key)) (now (yes .entry))) ⌝ }
+    ensures { λ r. ⌜ (r ≡ keyCode method key)
+        × (now (yes .exit) ≡ keyOut method key (flagOf (isToneKey (methodOf method) key)) (now (yes .entry))) ⌝ }
 {
     if 1 < method {
         return number(Refusal::Unsound);
@@ -23,7 +24,8 @@ pub extern "C" fn pasdrongel_is_tone_key(method: u32, key: u32, yes: &mut u32) -
 
 #[no_mangle]
 pub extern "C" fn pasdrongel_is_horn_key(method: u32, key: u32, yes: &mut u32) -> u32
-    ensures { λ r. ⌜ (r ≡ keyCode method key) × (now (yes .exit) ≡ keyOut method key (flagOf (isHornKey (methodOf method) key)) (now (yes .entry))) ⌝ }
+    ensures { λ r. ⌜ (r ≡ keyCode method key)
+        × (now (yes .exit) ≡ keyOut method key (flagOf (isHornKey (methodOf method) key)) (now (yes .entry))) ⌝ }
 {
     if 1 < method {
         return number(Refusal::Unsound);
@@ -34,7 +36,8 @@ pub extern "C" fn pasdrongel_is_horn_key(method: u32, key: u32, yes: &mut u32) -
 
 #[no_mangle]
 pub extern "C" fn pasdrongel_mark_for(method: u32, base: u32, key: u32, mark: &mut u32) -> u32
-    ensures { λ r. ⌜ (r ≡ markCode method base key) × (now (mark .exit) ≡ markOut method base key (markFor (methodOf method) base key) (now (mark .entry))) ⌝ }
+    ensures { λ r. ⌜ (r ≡ markCode method base key)
+        × (now (mark .exit) ≡ markOut method base key (markFor (methodOf method) base key) (now (mark .entry))) ⌝ }
 {
     if 1 < method {
         return number(Refusal::Unsound);

@@ -3,6 +3,7 @@ ghost use mathlib.Core.Path.{_≡_};
 ghost use lib.ListN.{length};
 ghost use Rattle.p0_refusals.specs.Answers.{Outcome, refusalOf, answer, output};
 ghost use Rattle.p5_trie.specs.Numbering.{Many};
+ghost use Rattle.p5_listing.specs.Counts.{wordCount};
 ghost use Rattle.p5_listing.specs.Listed.{Listed};
 ghost use Rattle.p5_lister.specs.Meaning.{NumberMeans, NextMeans};
 ghost use Rattle.p6_host.specs.Counts.{countOut};
@@ -10,7 +11,7 @@ use crate::answers::tell;
 
 #[no_mangle]
 pub extern "C" fn pasdrongel_total(total: &mut usize) -> u32
-    ensures { λ r. ⌜ (r ≡ 0) × (now (total .exit) ≡ 5963) × Many Listed (now (total .exit)) ⌝ }
+    ensures { λ r. ⌜ (r ≡ 0) × (now (total .exit) ≡ wordCount) × Many Listed (now (total .exit)) ⌝ }
 {
     *total = p5_lister::total();
     0

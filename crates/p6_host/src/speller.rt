@@ -8,7 +8,8 @@ use p4_spelling::Verdict;
 
 // The numbers of a cut's refusal and places.
 fn tell_cut(given: Cut, onset: &mut usize, vowels: &mut usize) -> u32
-    ensures { λ r. ⌜ (r ≡ cutNumber given) × (now (onset .exit) ≡ onsetOut given (now (onset .entry))) × (now (vowels .exit) ≡ vowelsOut given (now (vowels .entry))) ⌝ }
+    ensures { λ r. ⌜ (r ≡ cutNumber given) × (now (onset .exit) ≡ onsetOut given (now (onset .entry)))
+        × (now (vowels .exit) ≡ vowelsOut given (now (vowels .entry))) ⌝ }
 {
     match given {
         Cut::At(places) => {

@@ -3,7 +3,7 @@
 ghost use mathlib.Core.Path.{_≡_};
 ghost use lib.ListN.{length};
 ghost use Rattle.p0_refusals.specs.Answers.{output};
-ghost use Rattle.p3_calls.specs.Output.{popOutcome, popped};
+ghost use Rattle.p3_calls.specs.Output.{removalOutcome, removed};
 ghost use Rattle.p3_calls.specs.Settings.{resetTo};
 ghost use Rattle.p3_key.specs.Process.{keyOutcome, keyed};
 ghost use Rattle.p3_undo.specs.Call.{undoTelex};
@@ -30,9 +30,9 @@ pub fn reset(c: &mut Composition) -> Answer
 }
 
 pub fn pop_last(c: &mut Composition, out: &mut [u32]) -> Answer
-    ensures { λ r. ⌜ (now (c .exit) ≡ popped (now (c .entry)) (length (now (out .entry))) .comp)
-        × (r ≡ popped (now (c .entry)) (length (now (out .entry))) .answer)
-        × (now (out .exit) ≡ output (popOutcome (now (c .entry))) (now (out .entry))) ⌝ }
+    ensures { λ r. ⌜ (now (c .exit) ≡ removed (now (c .entry)) (length (now (out .entry))) .comp)
+        × (r ≡ removed (now (c .entry)) (length (now (out .entry))) .answer)
+        × (now (out .exit) ≡ output (removalOutcome (now (c .entry))) (now (out .entry))) ⌝ }
 {
     let k = p3_calls::pop_last(*c, out);
     *c = k.comp;

@@ -1,10 +1,11 @@
--- The floor: a row of at most 32 letters, and the text that they are copied to.
+-- The floor: a row of letters, at most as many as a composition has cells, and the text that they are copied to.
 use Prim.Native.Nat.{ℕ}
 use mathlib.Core.List.{List, [], _∷_, _++_}
 use lib.Dec.{eqb, ltb}
 use lib.ListN.{length, drop, take}
 use Rattle.p0_choice.specs.Choice.{pick}
-use Rattle.p7_bench.specs.Run.{lineEnd}
+use Rattle.p0_choice.specs.Text.{lineEnd}
+use Rattle.p3_cells.specs.Cells.{limit}
 
 pub record Sheet : Type 0 where
   pub row : List ℕ
@@ -16,12 +17,13 @@ copied row text = pick (ltb (length text) (length row)) text (row ++ drop (lengt
 
 -- the place of the next letter, where so many are in the row
 unfoldable pub freePlace : ℕ → ℕ
-freePlace n = pick (ltb n 32) n 0
+freePlace n = pick (ltb n limit) n 0
 
 -- the row with the next letter
 unfoldable pub longer : List ℕ → ℕ → List ℕ
 longer row k = take (freePlace (length row)) row ++ (k ∷ [])
 
+-- a line end starts afresh
 unfoldable pub lay : Sheet → ℕ → Sheet
 lay s k =
     pick (eqb k lineEnd) (record { row = []; text = s .text })

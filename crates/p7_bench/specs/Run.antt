@@ -3,10 +3,6 @@ use Prim.Native.Nat.{ℕ}
 use mathlib.Core.List.{List, [], _∷_}
 
 -- what the keys make of a state, each by the step f
-unfoldable pub after : {A : Type 0} → (A → ℕ → A) → A → List ℕ → A
-after f a [] = a
-after f a (k ∷ ks) = after f (f a k) ks
-
--- U+000A starts afresh
-abbrev pub lineEnd : ℕ
-lineEnd = 10
+unfoldable pub afterKeys : {A : Type 0} → (A → ℕ → A) → A → List ℕ → A
+afterKeys f a [] = a
+afterKeys f a (k ∷ ks) = afterKeys f (f a k) ks

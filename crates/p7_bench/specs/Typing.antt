@@ -4,6 +4,7 @@ use mathlib.Core.List.{List}
 use lib.ListN.{length}
 use lib.Dec.{eqb}
 use Rattle.p0_choice.specs.Choice.{pick}
+use Rattle.p0_choice.specs.Text.{lineEnd}
 use Rattle.p2_input_method.specs.declared.InputMethod.the-variants.{Telex}
 use Rattle.p0_refusals.specs.Answers.{output}
 use Rattle.p3_calls.specs.Settings.{created}
@@ -11,7 +12,6 @@ use Rattle.p3_cells.specs.declared.Composition.{Composition}
 use Rattle.p0_refusals.specs.declared.Answer.{Answer}
 use Rattle.p0_refusals.specs.declared.Answer.the-variants.{Done, Refused}
 use Rattle.p3_key.specs.Process.{keyOutcome, keyed}
-use Rattle.p7_bench.specs.Run.{lineEnd}
 
 pub record Typed : Type 0 where
   pub comp : Composition
@@ -22,8 +22,9 @@ abbrev pub refusalsOf : Answer → ℕ
 refusalsOf (Done n) = 0
 refusalsOf (Refused r) = 1
 
-unfoldable pub press : Typed → ℕ → Typed
-press t k =
+-- a line end starts afresh
+unfoldable pub typeKey : Typed → ℕ → Typed
+typeKey t k =
     pick (eqb k lineEnd) (record { comp = created Telex; text = t .text; refused = t .refused })
     (record {
       comp = keyed (t .comp) k (length (t .text)) .comp;

@@ -1,12 +1,12 @@
-// The floor: what no key can be spared. It appends its letter and copies the letters so far to the text.
+// The floor: what no key can be spared. It appends its letter to a row, as long as the cells of a composition, and copies the
+// letters so far to the text.
 ghost use mathlib.Core.Path.{_≡_};
 ghost use Prim.Native.Nat.{_<_, _≤_};
 ghost use lib.ListN.{length, take};
-ghost use Rattle.p7_bench.specs.Run.{after};
+ghost use Rattle.p3_cells.specs.Cells.{limit};
+ghost use Rattle.p7_bench.specs.Run.{afterKeys};
 ghost use Rattle.p7_bench.specs.Floor.{copied, freePlace, lay, blankSheet};
-
-// The most letters in the row, as many as a composition has cells.
-const ROW: usize = 32;
+use p3_cells::LIMIT;
 
 // Copies the first n letters of the row to the start of a text that has room for them.
 fn copy(row: &[u32], n: usize, text: &mut [u32])
@@ -25,9 +25,9 @@ fn copy(row: &[u32], n: usize, text: &mut [u32])
 
 // Where the next letter goes: a full row starts afresh.
 fn free_place(count: usize) -> usize
-    ensures { λ r. ⌜ (r ≡ freePlace count) × (r < 32) ⌝ }
+    ensures { λ r. ⌜ (r ≡ freePlace count) × (r < limit) ⌝ }
 {
-    if count < ROW {
+    if count < LIMIT {
         return count;
     }
     0
@@ -36,10 +36,10 @@ fn free_place(count: usize) -> usize
 // Answers how many letters are in the row at the end.
 #[no_mangle]
 pub extern "C" fn pasdrongel_bench_floor(keys: &[u32], text: &mut [u32]) -> usize
-    ensures { λ r. ⌜ r ≡ length (after lay (blankSheet (now (text .entry))) (now (keys .entry)) .row) ⌝ }
-    ensures { λ r. ⌜ now (text .exit) ≡ after lay (blankSheet (now (text .entry))) (now (keys .entry)) .text ⌝ }
+    ensures { λ r. ⌜ r ≡ length (afterKeys lay (blankSheet (now (text .entry))) (now (keys .entry)) .row) ⌝ }
+    ensures { λ r. ⌜ now (text .exit) ≡ afterKeys lay (blankSheet (now (text .entry))) (now (keys .entry)) .text ⌝ }
 {
-    let mut row = [0u32; ROW];
+    let mut row = [0u32; LIMIT];
     let mut count: usize = 0;
     let mut i: usize = 0;
     while i < keys.len() {

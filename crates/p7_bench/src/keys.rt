@@ -1,8 +1,8 @@
 // A note typed under Telex, key by key.
 ghost use mathlib.Core.Path.{_≡_};
 ghost use Prim.Native.Nat.{_≤_};
-ghost use Rattle.p7_bench.specs.Run.{after};
-ghost use Rattle.p7_bench.specs.Typing.{refusalsOf, press, fresh};
+ghost use Rattle.p7_bench.specs.Run.{afterKeys};
+ghost use Rattle.p7_bench.specs.Typing.{refusalsOf, typeKey, fresh};
 use p0_refusals::Answer;
 use p2_input_method::InputMethod;
 use p3_calls as calls;
@@ -21,8 +21,8 @@ pub fn refusals(given: Answer) -> usize
 // Answers how many keys were refused; the text is what the last other one wrote.
 #[no_mangle]
 pub extern "C" fn pasdrongel_bench_keys(keys: &[u32], text: &mut [u32]) -> usize
-    ensures { λ r. ⌜ r ≡ after press (fresh (now (text .entry))) (now (keys .entry)) .refused ⌝ }
-    ensures { λ r. ⌜ now (text .exit) ≡ after press (fresh (now (text .entry))) (now (keys .entry)) .text ⌝ }
+    ensures { λ r. ⌜ r ≡ afterKeys typeKey (fresh (now (text .entry))) (now (keys .entry)) .refused ⌝ }
+    ensures { λ r. ⌜ now (text .exit) ≡ afterKeys typeKey (fresh (now (text .entry))) (now (keys .entry)) .text ⌝ }
 {
     let mut c = calls::new(InputMethod::Telex);
     let mut refused: usize = 0;

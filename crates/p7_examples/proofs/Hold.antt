@@ -9,7 +9,7 @@ use Rattle.p1_letters.specs.Vowels as LettersVowels
 use Rattle.p2_input_method.specs.Rules as InputMethodRules
 use Rattle.p3_cells.specs.Cells as CellsCells
 use Rattle.p3_cells.specs.Text as CellsText
-use Rattle.p3_place.specs.Place as PlacePlace
+use Rattle.p3_tone.specs.TonePlace as PlacePlace
 use Rattle.p3_marks.specs.Uo as MarksUo
 use Rattle.p3_marks.specs.Ua as MarksUa
 use Rattle.p3_marks.specs.Mark as MarksMark
@@ -27,5 +27,28 @@ use Rattle.p4_spelling.specs.Verdict as SpellingVerdict
 use Rattle.p7_examples.specs.Examples.{press, pressAll, holds, examples}
 
 pub examples-hold : T (each holds examples)
-unfolding press pressAll holds examples RefusalsAnswers.content RefusalsAnswers.answer RefusalsAnswers.output CellsLeaving.changed KeyProcess.next KeyProcess.written KeyProcess.isFull KeyProcess.keyOutcome KeyProcess.keyNext KeyProcess.keyed ChoiceText.word ChoiceText.wordsFrom ChoiceText.words LettersAlphabet.smallBy32 LettersAlphabet.smallBy1 LettersAlphabet.smallHigh LettersAlphabet.smallNext LettersAlphabet.isSmall LettersAlphabet.isAsciiCapital LettersAlphabet.isCapital LettersAlphabet.inAlphabet LettersAlphabet.isWhiteSpace LettersAlphabet.isSeparator LettersAlphabet.asciiLower LettersAlphabet.asciiUpper LettersAlphabet.lower LettersAlphabet.upper LettersTones.toneRows LettersTones.toneColumn LettersTones.rowOf LettersTones.toneFrom LettersTones.toneOn LettersTones.offIn LettersTones.toneOff LettersVowels.vowels LettersVowels.isVowel LettersVowels.isSpellingVowel InputMethodRules.toneKeys InputMethodRules.isToneKey InputMethodRules.markRule InputMethodRules.markRules InputMethodRules.markIn InputMethodRules.markFor InputMethodRules.isHornKey CellsCells.isBlank CellsCells.marks CellsCells.tones CellsCells.markFits CellsCells.toneFits CellsCells.isCell CellsCells.fitsAt CellsCells.isSound CellsCells.typed CellsCells.used CellsCells.holding CellsText.letterOf CellsText.tonedLetter CellsText.shown CellsText.textOf PlacePlace.lowLetter PlacePlace.lowBase PlacePlace.anyVowel PlacePlace.separates PlacePlace.anySeparates PlacePlace.lastSyllable PlacePlace.syllableStart PlacePlace.vowelPlaces PlacePlace.pairIn PlacePlace.glidingPair PlacePlace.glides PlacePlace.risingPair PlacePlace.kept PlacePlace.rises PlacePlace.chosen PlacePlace.placeOf PlacePlace.tonePlace MarksUo.baseAt MarksUo.uoBack MarksUo.uoPlace MarksUo.hornU MarksUo.uoMade MarksUa.afterQ MarksUa.uaPlace MarksUa.marked MarksUa.uaMade MarksMark.markBack MarksMark.markPlace MarksMark.markMade KeyKey.withTone KeyKey.toneMade KeyKey.appended KeyKey.markOrLater KeyKey.hornOrLater KeyKey.keyCells CallsSettings.empty CallsSettings.created UndoRaw.lowered UndoRaw.endsIn UndoRaw.pairAt UndoRaw.lastEnd UndoRaw.anyPlain UndoRaw.active UndoUndo.lastWith UndoUndo.hasTone UndoUndo.hasMark UndoUndo.ruleAt UndoUndo.byRules UndoUndo.toneAt UndoUndo.toUndo UndoUndo.toneless UndoUndo.restored UndoUndo.undone UndoCall.undoFound UndoCall.undoTelex RowsRows.onsetRows RowsRows.vowelRows RowsRows.codaRows RowsRows.onsetToVowels RowsRows.vowelsToCoda RowsLookup.sameWord RowsLookup.inList RowsLookup.rowsFrom RowsLookup.rowsOf RowsLookup.listed RowsLookup.allows RowsLookup.allowsAny RowsLookup.goTogether SpellingCut.beforeVowel SpellingCut.vowelRun SpellingCut.isGlue SpellingCut.startsGlued SpellingCut.onsetEnd SpellingCut.vowelsEnd SpellingCut.onsetOf SpellingCut.vowelsOf SpellingCut.codaOf SpellingVerdict.hasForeign SpellingVerdict.listedIfAny SpellingVerdict.onsetFits SpellingVerdict.codaFits SpellingVerdict.partsFit SpellingVerdict.fits SpellingVerdict.lowered SpellingVerdict.toneless SpellingVerdict.verdict
+unfolding press pressAll holds examples RefusalsAnswers.content RefusalsAnswers.answer RefusalsAnswers.output CellsLeaving.leaving
+    KeyProcess.nextCells KeyProcess.writtenFor KeyProcess.isFull KeyProcess.keyOutcome KeyProcess.keyNext KeyProcess.keyed ChoiceText.word
+    ChoiceText.wordsFrom ChoiceText.words LettersAlphabet.smallBy32 LettersAlphabet.smallBy1 LettersAlphabet.smallHigh
+    LettersAlphabet.smallNext LettersAlphabet.isSmall LettersAlphabet.isAsciiCapital LettersAlphabet.isCapital LettersAlphabet.inAlphabet
+    LettersAlphabet.isWhiteSpace LettersAlphabet.isSeparator LettersAlphabet.asciiLower LettersAlphabet.asciiUpper LettersAlphabet.lower
+    LettersAlphabet.upper LettersTones.toneRows LettersTones.toneColumn LettersTones.rowOf LettersTones.toneFrom LettersTones.toneOn
+    LettersTones.offIn LettersTones.toneOff LettersVowels.vowels LettersVowels.isVowel LettersVowels.isSpellingVowel
+    InputMethodRules.toneKeys InputMethodRules.isToneKey InputMethodRules.markRule InputMethodRules.markRules InputMethodRules.markIn
+    InputMethodRules.markFor InputMethodRules.isHornKey CellsCells.isBlank CellsCells.marks CellsCells.tones CellsCells.markFits
+    CellsCells.toneFits CellsCells.isCell CellsCells.fitsAt CellsCells.isSound CellsCells.typed CellsCells.used CellsCells.holding
+    CellsText.letterOf CellsText.tonedLetter CellsText.shown CellsText.textOf PlacePlace.lowLetter PlacePlace.lowBase PlacePlace.anyVowel
+    PlacePlace.separates PlacePlace.anySeparates PlacePlace.lastSyllable PlacePlace.syllableStart PlacePlace.vowelPlaces PlacePlace.pairIn
+    PlacePlace.glidingPair PlacePlace.glides PlacePlace.risingPair PlacePlace.kept PlacePlace.rises PlacePlace.chosen PlacePlace.placeOf
+    PlacePlace.tonePlace MarksUo.baseAt MarksUo.uoBack MarksUo.uoPlace MarksUo.hornU MarksUo.uoMade MarksUa.afterQ MarksUa.uaPlace
+    MarksUa.marked MarksUa.uaMade MarksMark.markBack MarksMark.markPlace MarksMark.markMade KeyKey.withTone KeyKey.toneMade KeyKey.appended
+    KeyKey.markOrLater KeyKey.hornOrLater KeyKey.keyCells CallsSettings.empty CallsSettings.created UndoRaw.rawLowered UndoRaw.endsIn
+    UndoRaw.pairAt UndoRaw.lastEnd UndoRaw.anyPlain UndoRaw.active UndoUndo.lastWith UndoUndo.hasTone UndoUndo.hasMark UndoUndo.ruleAt
+    UndoUndo.byRules UndoUndo.toneAt UndoUndo.toUndo UndoUndo.toneLost UndoUndo.restored UndoUndo.undone UndoCall.undoFound
+    UndoCall.undoTelex RowsRows.onsetRows RowsRows.vowelRows RowsRows.codaRows RowsRows.onsetToVowels RowsRows.vowelsToCoda
+    RowsLookup.sameWord RowsLookup.inList RowsLookup.rowsFrom RowsLookup.rowsOf RowsLookup.inRows RowsLookup.allows RowsLookup.allowsAny
+    RowsLookup.goTogether SpellingCut.beforeVowel SpellingCut.vowelRun SpellingCut.isGlue SpellingCut.startsGlued SpellingCut.onsetEnd
+    SpellingCut.vowelsEnd SpellingCut.onsetOf SpellingCut.vowelsOf SpellingCut.codaOf SpellingVerdict.hasForeign SpellingVerdict.inRowsIfAny
+    SpellingVerdict.onsetFits SpellingVerdict.codaFits SpellingVerdict.partsFit SpellingVerdict.fits SpellingVerdict.lowered
+    SpellingVerdict.toneless SpellingVerdict.verdict
 examples-hold = tt

@@ -17,7 +17,7 @@ use Rattle.p3_calls.specs.Settings.{created}
 use Rattle.p3_cells.specs.Cells.{limit, blank}
 use Rattle.p3_cells.specs.declared.Composition.{Composition}
 use Rattle.p3_key.specs.Process.{keyOutcome, keyed}
-use Rattle.p3_undo.specs.Call.{refusalOf, undoTelex}
+use Rattle.p3_undo.specs.Call.{undoRefusal, undoTelex}
 use Rattle.p4_rows.specs.Lookup.{sameWord}
 use Rattle.p4_spelling.specs.Verdict.{verdict}
 
@@ -61,7 +61,7 @@ unfoldable pub holds : Example → Bool
 holds (gives m keys text) = pick (isDone (pressed m keys .answer)) (sameWord (pressed m keys .text) (word text)) false
 holds (tones m keys i tone) = eqb (getD (pressed m keys .comp .cells) i blank .tone) (getD (word tone) 0 0)
 holds (undoRefused m keys trigger raw n) =
-    eqb (refusalOf (undoTelex (pressed m keys .comp) (getD (word trigger) 0 0) (word raw) .answer)) n
+    eqb (undoRefusal (undoTelex (pressed m keys .comp) (getD (word trigger) 0 0) (word raw) .answer)) n
 holds (judged w given) = same (verdict (word w)) given
 
 unfoldable pub examples : List Example

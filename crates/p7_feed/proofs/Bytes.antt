@@ -2,7 +2,7 @@
 use Prim.Native.Nat.{ℕ}
 use mathlib.Core.Path.{_≡_, refl}
 use mathlib.Core.List.{List, [], _∷_, _++_, append-assoc}
-use Rattle.p7_feed.specs.Run.{State, stepTo, runTo, runOut}
+use Rattle.p7_feed.specs.Mirror.{State, stepTo, runTo, runOut}
 
 pub cut-to : (s : State) (a b : List ℕ) → runTo s (a ++ b) ≡ runTo (runTo s a) b
 unfolding runTo

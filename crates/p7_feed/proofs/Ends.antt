@@ -8,15 +8,15 @@ use Rattle.p0_refusals.specs.Answers.{onto}
 use Rattle.p0_refusals.specs.declared.Refusal.{Refusal}
 use Rattle.p2_input_method.specs.declared.InputMethod.{InputMethod}
 use Rattle.p7_line.specs.Line.{refusedLine, lineOut}
-use Rattle.p7_line.specs.Method.{methodOf}
+use Rattle.p7_line.specs.Method.{begunBy}
 use Rattle.p7_line.specs.declared.Begun.{Begun}
 use Rattle.p7_line.specs.declared.Begun.the-variants.{With, Refused}
 use Rattle.p7_feed.specs.declared.Phase.{Phase}
 use Rattle.p7_feed.specs.declared.Phase.the-variants.{Start, Keys, Ended}
-use Rattle.p7_feed.specs.Run.{state, begunPhase, begunOut, endPhase, endOut, finishKeys, finishOf, finishOut}
+use Rattle.p7_feed.specs.Mirror.{state, begunPhase, begunOut, endPhase, endOut, finishKeys, finishOf, finishOut}
 
 module _ (p : Phase) (l : List ℕ) where
-  module _ (s : p ≡ Start) (b : Begun) (e : b ≡ methodOf l) where
+  module _ (s : p ≡ Start) (b : Begun) (e : b ≡ begunBy l) where
     pub phase-with : (m : InputMethod) → b ≡ With m → Keys m ≡ endPhase p l
     unfolding endPhase begunPhase
     phase-with m q = rw (s, ← e, q) refl
@@ -44,7 +44,8 @@ module _ (p : Phase) (l : List ℕ) where
     pub refused-end : (r : Refusal) (at e : ℕ) → b ≡ Refused r → e ≡ at + length (refusedLine r) → e ≡ at + length (endOut p l)
     refused-end r at e q h = rw (out-refused r q) h
 
-    pub refused-out : (r : Refusal) (at e : ℕ) (o o' : List ℕ) → b ≡ Refused r → o' ≡ take at o ++ (refusedLine r ++ drop e o) → o' ≡ take at o ++ (endOut p l ++ drop e o)
+    pub refused-out : (r : Refusal) (at e : ℕ) (o o' : List ℕ) → b ≡ Refused r → o' ≡ take at o ++ (refusedLine r ++ drop e o)
+        → o' ≡ take at o ++ (endOut p l ++ drop e o)
     refused-out r at e o o' q h = rw (out-refused r q) h
 
   module _ (m : InputMethod) (s : p ≡ Keys m) where

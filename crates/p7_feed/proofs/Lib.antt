@@ -4,3 +4,4 @@ pub mod Ends
 pub mod Over
 pub mod Parts
 pub mod Whole
+pub mod Only

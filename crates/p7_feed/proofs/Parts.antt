@@ -12,7 +12,7 @@ use Rattle.p0_choice.specs.Choice.{pick}
 use Rattle.p0_refusals.specs.Answers.{onto}
 use Rattle.p7_line.specs.Line.{most}
 use Rattle.p7_feed.specs.declared.Phase.{Phase}
-use Rattle.p7_feed.specs.Run.{State, state, hold, endPhase, endOut, stepTo, stepOut, runTo, runOut, lineAfter}
+use Rattle.p7_feed.specs.Mirror.{State, state, hold, endPhase, endOut, stepTo, stepOut, runTo, runOut, lineAfter}
 
 here : (part : List ℕ) (i : ℕ) → i < length part → drop i part ≡ getD part i 0 ∷ drop (i + 1) part
 here part i h = rw (add-one i) (drop-cons part i 0 h)
@@ -34,8 +34,10 @@ module _ (s : State) (held : List ℕ) (phase : Phase) (part : List ℕ) (i : �
     unfolding stepTo
     to-end = t ∙ to-turn (state held phase) part i h ∙ rw (← e, eq-eqb b 10 q, ← f) refl
 
-    pub out-end : (o o' : List ℕ) (n r : ℕ) → n ≤ length o → r ≡ n + length (endOut phase held) → o' ≡ take n o ++ (endOut phase held ++ drop r o)
-        → runOut s part ≡ take n o ++ runOut (state held phase) (drop i part) → runOut s part ≡ take r o' ++ runOut (state [] next) (drop (i + 1) part)
+    pub out-end : (o o' : List ℕ) (n r : ℕ) → n ≤ length o → r ≡ n + length (endOut phase held)
+        → o' ≡ take n o ++ (endOut phase held ++ drop r o)
+        → runOut s part ≡ take n o ++ runOut (state held phase) (drop i part) → runOut s part ≡ take r o'
+        ++ runOut (state [] next) (drop (i + 1) part)
     unfolding stepTo stepOut
     out-end o o' n r l k w u =
         let p = take n o ++ endOut phase held in
@@ -54,8 +56,10 @@ module _ (s : State) (held : List ℕ) (phase : Phase) (part : List ℕ) (i : �
     out-byte = out-turn (state held phase) part i h ∙ rw (← e, ne-eqb b 10 q) refl
 
 -- ---- the line's buffer
-module _ (x line : List ℕ) (len : ℕ) (part : List ℕ) (i : ℕ) (h : i < length part) (b : ℕ) (e : b ≡ getD part i 0) (t : x ≡ lineAfter line len (drop i part)) where
-  lay-turn : x ≡ pick (eqb b 10) (lineAfter line 0 (drop (i + 1) part)) (pick (ltb len most) (lineAfter (set line len b) (len + 1) (drop (i + 1) part)) (lineAfter line len (drop (i + 1) part)))
+module _ (x line : List ℕ) (len : ℕ) (part : List ℕ) (i : ℕ) (h : i < length part) (b : ℕ) (e : b ≡ getD part i 0)
+    (t : x ≡ lineAfter line len (drop i part)) where
+  lay-turn : x ≡ pick (eqb b 10) (lineAfter line 0 (drop (i + 1) part))
+      (pick (ltb len most) (lineAfter (set line len b) (len + 1) (drop (i + 1) part)) (lineAfter line len (drop (i + 1) part)))
   unfolding lineAfter
   lay-turn = t ∙ rw (here part i h, ← e) refl
 
@@ -68,12 +72,13 @@ module _ (x line : List ℕ) (len : ℕ) (part : List ℕ) (i : ℕ) (h : i < le
   pub lay-dropped : (b ≡ 10 → ⊥) → most ≤ len → x ≡ lineAfter line len (drop (i + 1) part)
   lay-dropped q k = lay-turn ∙ rw (ne-eqb b 10 q, le-ltb len most k) refl
 
-pub lay-done : (x line : List ℕ) (len : ℕ) (part : List ℕ) (i : ℕ) → length part ≤ i → x ≡ lineAfter line len (drop i part) → line ≡ x
+pub line-laid : (x line : List ℕ) (len : ℕ) (part : List ℕ) (i : ℕ) → length part ≤ i → x ≡ lineAfter line len (drop i part) → line ≡ x
 unfolding lineAfter
-lay-done x line len part i h t = sym (t ∙ rw (drop-of-length-le part h) refl)
+line-laid x line len part i h t = sym (t ∙ rw (drop-of-length-le part h) refl)
 
 -- ---- the output past what is printed
-pub past-end : (o o' o₀ e : List ℕ) (n r : ℕ) → n ≤ length o → r ≡ n + length e → o' ≡ take n o ++ (e ++ drop r o) → drop n o ≡ drop n o₀ → drop r o' ≡ drop r o₀
+pub past-end : (o o' o₀ e : List ℕ) (n r : ℕ) → n ≤ length o → r ≡ n + length e → o' ≡ take n o ++ (e ++ drop r o) → drop n o ≡ drop n o₀
+    → drop r o' ≡ drop r o₀
 past-end o o' o₀ e n r l k w d =
     let p = take n o ++ e in
     let j : length p ≡ r = omega (arith, length-append (take n o) e, length-take-le n o l) in
@@ -101,20 +106,31 @@ module _ (line : List ℕ) (len b : ℕ) (l : length line ≡ most) where
       let k : length (take len line) ≡ len = length-take-le len line (omega arith) in
       rw (le-ltb (length (take len line)) most (omega arith)) refl
 
-module _ (s : State) (line : List ℕ) (len : ℕ) (phase : Phase) (part : List ℕ) (i b : ℕ) (l : length line ≡ most) (h : i < length part) (e : b ≡ getD part i 0)
+module _ (s : State) (line : List ℕ) (len : ℕ) (phase : Phase) (part : List ℕ) (i b : ℕ) (l : length line ≡ most) (h : i < length part)
+    (e : b ≡ getD part i 0)
     (q : b ≡ 10 → ⊥) where
-  pub to-held : len < most → runTo s part ≡ runTo (state (take len line) phase) (drop i part) → runTo s part ≡ runTo (state (take (len + 1) (set line len b)) phase) (drop (i + 1) part)
-  to-held k t = to-byte s (take len line) phase part i h b e t q ∙ ap (λ (x : List ℕ). runTo (state x phase) (drop (i + 1) part)) (hold-more line len b l k)
+  pub to-held : len < most → runTo s part ≡ runTo (state (take len line) phase) (drop i part)
+      → runTo s part ≡ runTo (state (take (len + 1) (set line len b)) phase) (drop (i + 1) part)
+  to-held k t = to-byte s (take len line) phase part i h b e t q
+      ∙ ap (λ (x : List ℕ). runTo (state x phase) (drop (i + 1) part)) (hold-more line len b l k)
 
-  pub out-held : (p : List ℕ) → len < most → runTo s part ≡ runTo (state (take len line) phase) (drop i part) → runOut s part ≡ p ++ runOut (state (take len line) phase) (drop i part)
+  pub out-held : (p : List ℕ) → len < most → runTo s part ≡ runTo (state (take len line) phase) (drop i part)
+      → runOut s part ≡ p ++ runOut (state (take len line) phase) (drop i part)
       → runOut s part ≡ p ++ runOut (state (take (len + 1) (set line len b)) phase) (drop (i + 1) part)
   out-held p k t u =
-      u ∙ ap (λ (x : List ℕ). p ++ x) (out-byte s (take len line) phase part i h b e t q ∙ ap (λ (x : List ℕ). runOut (state x phase) (drop (i + 1) part)) (hold-more line len b l k))
+      u ∙ ap (λ (x : List ℕ). p ++ x)
+      (out-byte s (take len line) phase part i h b e t q
+      ∙ ap (λ (x : List ℕ). runOut (state x phase) (drop (i + 1) part)) (hold-more line len b l k))
 
-  pub to-dropped : most ≤ len → len ≤ most → runTo s part ≡ runTo (state (take len line) phase) (drop i part) → runTo s part ≡ runTo (state (take len line) phase) (drop (i + 1) part)
-  to-dropped k j t = to-byte s (take len line) phase part i h b e t q ∙ ap (λ (x : List ℕ). runTo (state x phase) (drop (i + 1) part)) (hold-full line len b l k j)
+  pub to-dropped : most ≤ len → len ≤ most → runTo s part ≡ runTo (state (take len line) phase) (drop i part)
+      → runTo s part ≡ runTo (state (take len line) phase) (drop (i + 1) part)
+  to-dropped k j t = to-byte s (take len line) phase part i h b e t q
+      ∙ ap (λ (x : List ℕ). runTo (state x phase) (drop (i + 1) part)) (hold-full line len b l k j)
 
-  pub out-dropped : (p : List ℕ) → most ≤ len → len ≤ most → runTo s part ≡ runTo (state (take len line) phase) (drop i part) → runOut s part ≡ p ++ runOut (state (take len line) phase) (drop i part)
+  pub out-dropped : (p : List ℕ) → most ≤ len → len ≤ most → runTo s part ≡ runTo (state (take len line) phase) (drop i part)
+      → runOut s part ≡ p ++ runOut (state (take len line) phase) (drop i part)
       → runOut s part ≡ p ++ runOut (state (take len line) phase) (drop (i + 1) part)
   out-dropped p k j t u =
-      u ∙ ap (λ (x : List ℕ). p ++ x) (out-byte s (take len line) phase part i h b e t q ∙ ap (λ (x : List ℕ). runOut (state x phase) (drop (i + 1) part)) (hold-full line len b l k j))
+      u ∙ ap (λ (x : List ℕ). p ++ x)
+      (out-byte s (take len line) phase part i h b e t q
+      ∙ ap (λ (x : List ℕ). runOut (state x phase) (drop (i + 1) part)) (hold-full line len b l k j))

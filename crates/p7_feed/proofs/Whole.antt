@@ -2,7 +2,7 @@
 use Prim.Native.Nat.{ℕ}
 use mathlib.Core.Path.{_≡_, refl, sym, ap, _∙_}
 use mathlib.Core.List.{List, [], _∷_, _++_, flatten}
-use Rattle.p7_feed.specs.Run.{State, state, runTo, runOut, partsTo, partsOut, finishOut}
+use Rattle.p7_feed.specs.Mirror.{State, state, runTo, runOut, partsTo, partsOut, finishOut}
 use Rattle.p7_feed.specs.declared.Phase.the-variants.{Start}
 use Rattle.p7_feed.specs.Program.{wordline}
 use Rattle.p7_feed.proofs.Bytes.{cut-to, cut-out}
@@ -26,5 +26,6 @@ part-after s [] part = refl
 part-after s (first ∷ parts) part = part-after (runTo s first) parts part
 
 -- the headline: what the parts print, and the end after the last, is the program's of the joined input
-pub parts-are-wordline : (parts : List (List ℕ)) → partsOut (state [] Start) parts ++ finishOut (partsTo (state [] Start) parts) ≡ wordline (flatten parts)
+pub parts-are-wordline : (parts : List (List ℕ))
+    → partsOut (state [] Start) parts ++ finishOut (partsTo (state [] Start) parts) ≡ wordline (flatten parts)
 parts-are-wordline parts = rw (parts-to (state [] Start) parts, parts-out (state [] Start) parts) (run-is-wordline (flatten parts))

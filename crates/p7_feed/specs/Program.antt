@@ -3,9 +3,10 @@ use Prim.Native.Nat.{ℕ}
 use mathlib.Core.List.{List, [], _∷_, _++_}
 use lib.Dec.{eqb}
 use Rattle.p0_choice.specs.Choice.{pick}
+use Rattle.p0_choice.specs.Text.{lineEnd}
 use Rattle.p2_input_method.specs.declared.InputMethod.{InputMethod}
 use Rattle.p7_line.specs.Line.{refusedLine, lineOut}
-use Rattle.p7_line.specs.Method.{methodOf}
+use Rattle.p7_line.specs.Method.{begunBy}
 use Rattle.p7_line.specs.declared.Begun.{Begun}
 use Rattle.p7_line.specs.declared.Begun.the-variants.{With, Refused}
 
@@ -13,7 +14,7 @@ use Rattle.p7_line.specs.declared.Begun.the-variants.{With, Refused}
 unfoldable pub linesFrom : List ℕ → List ℕ → List (List ℕ)
 linesFrom [] [] = []
 linesFrom (a ∷ line) [] = (a ∷ line) ∷ []
-linesFrom line (b ∷ input) = pick (eqb b 10) (line ∷ linesFrom [] input) (linesFrom (line ++ (b ∷ [])) input)
+linesFrom line (b ∷ input) = pick (eqb b lineEnd) (line ∷ linesFrom [] input) (linesFrom (line ++ (b ∷ [])) input)
 
 -- "then one line of keys per fresh composition"
 unfoldable pub allLines : InputMethod → List (List ℕ) → List ℕ
@@ -27,8 +28,8 @@ afterMethod (Refused r) lines = refusedLine r
 
 -- "reads standard input: a method line, then .."; "A program given no byte at all answers 9", as an empty method line does
 unfoldable pub program : List (List ℕ) → List ℕ
-program [] = afterMethod (methodOf []) []
-program (line ∷ lines) = afterMethod (methodOf line) lines
+program [] = afterMethod (begunBy []) []
+program (line ∷ lines) = afterMethod (begunBy line) lines
 
 unfoldable pub wordline : List ℕ → List ℕ
 wordline input = program (linesFrom [] input)

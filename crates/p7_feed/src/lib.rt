@@ -4,12 +4,13 @@ ghost use mathlib.Core.List.{_++_};
 ghost use Prim.Native.Nat.{_+_, _≤_};
 ghost use lib.ListN.{length, take, drop};
 ghost use Rattle.p0_refusals.specs.Answers.{onto};
-ghost use Rattle.p7_line.specs.Line.{most, lineRoom};
-ghost use Rattle.p7_feed.specs.Run.{stateOf, partMost, outRoom, endPhase, endOut, runTo, runOut, fed, lineAfter, finishOut};
-use p0_slices as slices;
+ghost use Rattle.p7_line.specs.Line.{most};
+ghost use Rattle.p7_line.specs.Mirror.{lineRoom};
+ghost use Rattle.p7_feed.specs.Mirror.{stateOf, partMost, outRoom, endPhase, endOut, runTo, runOut, fed, lineAfter, finishOut};
 use p2_input_method::InputMethod;
 use p7_line::Begun;
 use p7_line::MOST;
+use p7_slices as slices;
 
 // The most bytes of a part; `partMost` says the same.
 pub const PART: usize = 512;
@@ -55,7 +56,8 @@ fn end_phase(phase: Phase, line: &[u8]) -> Phase
 // What a line prints.
 fn end_out(phase: Phase, line: &[u8], out: &mut [u8], at: usize) -> usize
     requires { ⌜ at + lineRoom ≤ length (now out) ⌝ }
-    ensures { λ r. ⌜ (r ≡ at + length (endOut phase (now (line .entry)))) × (r ≤ at + lineRoom) × (now (out .exit) ≡ take at (now (out .entry)) ++ (endOut phase (now (line .entry)) ++ drop r (now (out .entry)))) ⌝ }
+    ensures { λ r. ⌜ (r ≡ at + length (endOut phase (now (line .entry)))) × (r ≤ at + lineRoom)
+        × (now (out .exit) ≡ take at (now (out .entry)) ++ (endOut phase (now (line .entry)) ++ drop r (now (out .entry)))) ⌝ }
 {
     match phase {
         Phase::Start => {
@@ -104,7 +106,8 @@ pub fn feed(part: &[u8], line: &mut [u8], carry: Carry, out: &mut [u8]) -> Fed
 // The end of the input: an unfinished line counts if it has a byte, and the method line always.
 pub fn finish(line: &[u8], carry: Carry, out: &mut [u8]) -> usize
     requires { ⌜ lineRoom ≤ length (now out) ⌝ }
-    ensures { λ r. ⌜ (r ≡ length (finishOut (stateOf (now (line .entry)) carry))) × (r ≤ lineRoom) × (now (out .exit) ≡ onto (finishOut (stateOf (now (line .entry)) carry)) (now (out .entry))) ⌝ }
+    ensures { λ r. ⌜ (r ≡ length (finishOut (stateOf (now (line .entry)) carry))) × (r ≤ lineRoom)
+        × (now (out .exit) ≡ onto (finishOut (stateOf (now (line .entry)) carry)) (now (out .entry))) ⌝ }
 {
     let held = slices::first_bytes(line, carry.len);
     let phase = carry.phase;

@@ -9,11 +9,12 @@ use lib.ListN.{length, take}
 use lib.Seq.{take-all, length-take-le}
 use borrow.Author.Tests.{lt-ltb, ltb-true, ltb-false}
 use Rattle.p2_input_method.specs.declared.InputMethod.{InputMethod}
+use Rattle.p0_refusals.specs.Limits.{byteLimit}
 use Rattle.p0_refusals.specs.declared.Refusal.the-variants.{Long}
 use Rattle.p0_refusals.specs.Answers.{refuses}
-use Rattle.p5_utf8_read.specs.Read.{byteLimit, reading}
+use Rattle.p5_utf8_text.specs.Read.{reading}
 use Rattle.p7_line.specs.Line.{most, lineOut}
-use Rattle.p7_line.specs.Method.{methodOf}
+use Rattle.p7_line.specs.Method.{begunBy}
 
 long : (l : List ℕ) → byteLimit < length l → reading l ≡ refuses Long
 unfolding reading
@@ -30,8 +31,8 @@ reading-bounded l = go (ltb byteLimit (length l)) refl
         long (take most l) q ∙ sym (long l h)
     go false p = let h : length l ≤ most = omega (arith, ltb-false byteLimit (length l) p) in ap reading (take-all most l h)
 
-pub method-bounded : (l : List ℕ) → methodOf (take most l) ≡ methodOf l
-unfolding methodOf
+pub method-bounded : (l : List ℕ) → begunBy (take most l) ≡ begunBy l
+unfolding begunBy
 method-bounded l = rw (reading-bounded l) refl
 
 pub line-bounded : (m : InputMethod) (l : List ℕ) → lineOut m (take most l) ≡ lineOut m l

@@ -4,3 +4,4 @@ pub mod SameWord
 pub mod Keys
 pub mod Texts
 pub mod Typing
+pub mod Only

@@ -1,4 +1,4 @@
--- A composed text of at most 32 letters: 96 bytes always suffice for it, and with its verdict it has at most 101.
+-- A composed text has at most a letter for each cell: `textBytes` always suffice for it, and `lineRoom` with its verdict.
 use Prim.Native.Nat.{ℕ, _+_, _≤_}
 use mathlib.Core.Path.{_≡_, refl, sym, ap, _∙_}
 use mathlib.Core.Bool.{Bool, true}
@@ -13,23 +13,27 @@ use Rattle.p0_refusals.specs.Answers.{writes, content, answer, onto, output}
 use Rattle.p0_refusals.specs.declared.Answer.{Answer}
 use Rattle.p0_refusals.specs.declared.Answer.the-variants.{Done, Refused}
 use Rattle.p0_refusals.specs.declared.Refusal.{Refusal}
+use Rattle.p0_refusals.specs.Limits.{letterLimit}
 use Rattle.p1_letters.specs.Alphabet.{allLetters}
+use Rattle.p3_cells.specs.Cells.{limit}
 use Rattle.p4_spelling.specs.Verdict.{verdict}
 use Rattle.p5_utf8.specs.Rfc3629.{encodeAll}
-use Rattle.p5_utf8_write.specs.Write.{writing}
-use Rattle.p5_utf8_write.proofs.Alphabet.{few-bytes}
-use Rattle.p7_line.specs.Line.{lineRoom, textLine}
-use Rattle.p0_slices.proofs.Written.{put-after}
+use Rattle.p5_utf8_text.specs.Write.{writing}
+use Rattle.p5_utf8_text.proofs.Alphabet.{few-bytes}
+use Rattle.p7_line.specs.Line.{textLine}
+use Rattle.p7_line.specs.Mirror.{lineRoom}
+use Rattle.p7_line.specs.Mirror.{textBytes}
+use Rattle.p7_slices.proofs.Written.{put-after}
 
-module _ (text : List ℕ) (a : allLetters text ≡ true) (h : length text ≤ 32) where
+module _ (text : List ℕ) (a : allLetters text ≡ true) (h : length text ≤ limit) where
   text-bytes : writing text ≡ writes (encodeAll text)
   unfolding writing
-  text-bytes = rw (le-ltb 64 (length text) (omega arith), a) refl
+  text-bytes = rw (le-ltb letterLimit (length text) (omega arith), a) refl
 
-  text-small : length (encodeAll text) ≤ 96
+  text-small : length (encodeAll text) ≤ textBytes
   text-small = omega (arith, few-bytes text a)
 
-  module _ (o : List ℕ) (g : Answer) (e : g ≡ answer (writing text) (length o)) (l : length o ≡ 96) where
+  module _ (o : List ℕ) (g : Answer) (e : g ≡ answer (writing text) (length o)) (l : length o ≡ textBytes) where
     text-done : g ≡ Done (length (encodeAll text))
     unfolding answer
     text-done = e ∙ rw (text-bytes, le-ltb (length o) (length (encodeAll text)) (omega (arith, text-small))) refl
@@ -43,7 +47,8 @@ module _ (text : List ℕ) (a : allLetters text ≡ true) (h : length text ≤ 3
       text-first =
           let d = text-done in
           let k : n ≡ length (encodeAll text) = cc in
-          let w : out ≡ onto (encodeAll text) o = f ∙ rw (text-bytes, le-ltb (length o) (length (encodeAll text)) (omega (arith, text-small))) refl in
+          let w : out ≡ onto (encodeAll text) o =
+          f ∙ rw (text-bytes, le-ltb (length o) (length (encodeAll text)) (omega (arith, text-small))) refl in
           t ∙ rw w (take-at (encodeAll text) (drop (length (encodeAll text)) o) n (sym k))
 
       pub text-room : (at m : ℕ) → at + lineRoom ≤ m → at + length bs ≤ m
@@ -52,14 +57,15 @@ module _ (text : List ℕ) (a : allLetters text ≡ true) (h : length text ≤ 3
       pub text-end : (at r : ℕ) → r ≡ at + length bs → r ≡ at + length (encodeAll text)
       text-end at r k = k ∙ ap (λ (xs : List ℕ). at + length xs) text-first
 
-      pub text-next : (at r : ℕ) → r ≡ at + length bs → r ≤ at + 96
+      pub text-next : (at r : ℕ) → r ≡ at + length bs → r ≤ at + textBytes
       text-next at r k = let j = ap length text-first in omega (arith, text-small)
 
       pub text-out : (at r : ℕ) (o1 o2 : List ℕ) → o2 ≡ take at o1 ++ (bs ++ drop r o1) → o2 ≡ take at o1 ++ (encodeAll text ++ drop r o1)
       text-out at r o1 o2 k = rw text-first at k
 
 -- the bytes and their verdict are the line
-module _ (text : List ℕ) (s b : Bool) (i : s ≡ verdict text) (y : s ≡ b) (p : List ℕ) (j : 9 ∷ (pick b (word "yes") (word "no") ++ (10 ∷ [])) ≡ p) (at next r : ℕ)
+module _ (text : List ℕ) (s b : Bool) (i : s ≡ verdict text) (y : s ≡ b) (p : List ℕ)
+    (j : 9 ∷ (pick b (word "yes") (word "no") ++ (10 ∷ [])) ≡ p) (at next r : ℕ)
     (c : next ≡ at + length (encodeAll text)) (d : r ≡ next + length p) where
   line-bytes : textLine text ≡ encodeAll text ++ p
   unfolding textLine
@@ -68,6 +74,7 @@ module _ (text : List ℕ) (s b : Bool) (i : s ≡ verdict text) (y : s ≡ b) (
   pub line-end : r ≡ at + length (textLine text)
   line-end = let k = ap length line-bytes in omega (arith, length-append (encodeAll text) p)
 
-  pub line-out : (o1 o2 o3 : List ℕ) → next ≤ at + 96 → at + lineRoom ≤ length o1 → o2 ≡ take at o1 ++ (encodeAll text ++ drop next o1)
+  pub line-out : (o1 o2 o3 : List ℕ) → next ≤ at + textBytes → at + lineRoom ≤ length o1
+      → o2 ≡ take at o1 ++ (encodeAll text ++ drop next o1)
       → o3 ≡ take next o2 ++ (p ++ drop r o2) → o3 ≡ take at o1 ++ (textLine text ++ drop r o1)
   line-out o1 o2 o3 n m u v = rw line-bytes (put-after o1 o2 o3 (encodeAll text) p at next r c d (omega arith) u v)

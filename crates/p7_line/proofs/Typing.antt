@@ -18,142 +18,136 @@ use Rattle.p1_letters.specs.Alphabet.{inAlphabet, allLetters}
 use Rattle.p2_input_method.specs.declared.InputMethod.{InputMethod}
 use Rattle.p3_cells.specs.Cells.{limit, isSound, used, holding}
 use Rattle.p3_cells.specs.Text.{shown, textOf}
-use Rattle.p3_cells.specs.Leaving.{changed}
-use Rattle.p3_cells.specs.declared.Cell.{Cell}
+use Rattle.p3_cells.specs.Leaving.{leaving}
 use Rattle.p3_cells.specs.declared.Composition.{Composition}
 use Rattle.p3_cells.specs.declared.Mode.{Mode}
 use Rattle.p3_cells.specs.declared.Mode.the-variants.{Vietnamese}
 use Rattle.p0_refusals.specs.declared.Answer.the-variants.{Done, Refused}
 use Rattle.p3_calls.specs.Settings.{empty, created}
 use Rattle.p3_calls.proofs.Kept.{new-sound}
-use Rattle.p3_cells.proofs.Holding.{used-holding, used-length, used-cells, count-fits, length-blanks}
+use Rattle.p3_cells.proofs.Holding.{used-holding, method-held, mode-held, used-length, used-cells, count-fits}
 use Rattle.p3_step.specs.Key.{keyCells}
-use Rattle.p3_key.specs.Process.{inMode, next, written, isFull, keyOutcome, keyNext, keyed}
-use Rattle.p3_cells.specs.declared.Changed.{Changed}
-use Rattle.p3_key.proofs.Kept.{key-length, key-sound}
-use Rattle.p5_utf8_write.proofs.Alphabet.{all-at}
-use Rattle.p7_line.specs.Line.{made, full, typed, typedLine, refusedLine, textLine}
+use Rattle.p3_key.specs.Process.{inMode, nextCells, writtenFor, isFull, keyOutcome, keyNext, keyed}
+use Rattle.p3_cells.specs.declared.After.{After}
+use Rattle.p3_key.proofs.Kept.{key-sound}
+use Rattle.p5_utf8_text.proofs.Alphabet.{all-at}
+use Rattle.p7_line.specs.Line.{made, full, keysMade, madeLine, refusedLine, textLine}
 use Rattle.p3_cells.proofs.InAlphabet.{text-letters}
 
--- ---- one key, on a sound Vietnamese composition with 32 places lent
-module _ (c : Composition) (k : ℕ) (o : List ℕ) (s : isSound c ≡ true) (v : c .mode ≡ Vietnamese) (a : inAlphabet k ≡ true) (l : length o ≡ 32) where
-  text-long : length (textOf (next c k)) ≡ length (next c k)
+-- ---- one key, on a sound Vietnamese composition with a place lent for each cell
+module _ (c : Composition) (k : ℕ) (o : List ℕ) (s : isSound c ≡ true) (v : c .mode ≡ Vietnamese)
+    (a : inAlphabet k ≡ true) (l : length o ≡ limit) where
+  text-long : length (textOf (nextCells c k)) ≡ length (nextCells c k)
   unfolding textOf
-  text-long = length-map (next c k) shown
+  text-long = length-map (nextCells c k) shown
 
   -- what there is to write
-  outcome : keyOutcome c k ≡ pick (ltb limit (length (next c k))) (refuses Full) (writes (textOf (next c k)))
-  unfolding keyOutcome isFull written
+  outcome : keyOutcome c k ≡ pick (ltb limit (length (nextCells c k))) (refuses Full) (writes (textOf (nextCells c k)))
+  unfolding keyOutcome isFull writtenFor
   outcome =
       rw (s, a)
-      (ap (λ (x : Mode). pick (inMode x (ltb limit (length (next c k))) false) (refuses Full) (writes (inMode x (textOf (next c k)) (k ∷ [])))) v)
+      (ap (λ (x : Mode). pick (inMode x (ltb limit (length (nextCells c k))) false) (refuses Full)
+      (writes (inMode x (textOf (nextCells c k)) (k ∷ [])))) v)
 
-  full-key : limit < length (next c k) → keyOutcome c k ≡ refuses Full
-  full-key h = outcome ∙ rw (lt-ltb limit (length (next c k)) h) refl
+  full-key : limit < length (nextCells c k) → keyOutcome c k ≡ refuses Full
+  full-key h = outcome ∙ rw (lt-ltb limit (length (nextCells c k)) h) refl
 
-  done-key : length (next c k) ≤ limit → keyOutcome c k ≡ writes (textOf (next c k))
-  done-key h = outcome ∙ rw (le-ltb limit (length (next c k)) h) refl
+  done-key : length (nextCells c k) ≤ limit → keyOutcome c k ≡ writes (textOf (nextCells c k))
+  done-key h = outcome ∙ rw (le-ltb limit (length (nextCells c k)) h) refl
 
-  room : length (next c k) ≤ limit → length (textOf (next c k)) ≤ length o
+  room : length (nextCells c k) ≤ limit → length (textOf (nextCells c k)) ≤ length o
   room h = rw text-long (omega arith)
 
   -- 2, and nothing else
-  key-full : (r : Refusal) → answer (keyOutcome c k) (length o) ≡ Refused r → (limit < length (next c k)) × (r ≡ Full)
-  key-full r q = go (ltb limit (length (next c k))) refl
+  key-full : (r : Refusal) → answer (keyOutcome c k) (length o) ≡ Refused r → (limit < length (nextCells c k)) × (r ≡ Full)
+  key-full r q = go (ltb limit (length (nextCells c k))) refl
     where
-      go : (b : Bool) → ltb limit (length (next c k)) ≡ b → (limit < length (next c k)) × (r ≡ Full)
+      go : (b : Bool) → ltb limit (length (nextCells c k)) ≡ b → (limit < length (nextCells c k)) × (r ≡ Full)
       go true e =
-          let h = ltb-true limit (length (next c k)) e in
+          let h = ltb-true limit (length (nextCells c k)) e in
           let w : Refused Full ≡ Refused r = refuses-answer _ _ (full-key h) (length o) ∙ q in
           (h, cc)
       go false e =
-          let h = ltb-false limit (length (next c k)) e in
-          let w : Done (length (textOf (next c k))) ≡ Refused r = writes-answer _ _ (done-key h) (length o) _ (room h) refl ∙ q in
+          let h = ltb-false limit (length (nextCells c k)) e in
+          let w : Done (length (textOf (nextCells c k))) ≡ Refused r = writes-answer _ _ (done-key h) (length o) _ (room h) refl ∙ q in
           let z : _≡_ {A = ℕ} 0 1 = cc in absurd (omega arith)
 
   module _ (n : ℕ) (q : answer (keyOutcome c k) (length o) ≡ Done n) where
-    key-done : length (next c k) ≤ limit
-    key-done = go (ltb limit (length (next c k))) refl
+    key-done : length (nextCells c k) ≤ limit
+    key-done = go (ltb limit (length (nextCells c k))) refl
       where
-        go : (b : Bool) → ltb limit (length (next c k)) ≡ b → length (next c k) ≤ limit
+        go : (b : Bool) → ltb limit (length (nextCells c k)) ≡ b → length (nextCells c k) ≤ limit
         go true e =
-            let w : Refused Full ≡ Done n = refuses-answer _ _ (full-key (ltb-true limit (length (next c k)) e)) (length o) ∙ q in
+            let w : Refused Full ≡ Done n = refuses-answer _ _ (full-key (ltb-true limit (length (nextCells c k)) e)) (length o) ∙ q in
             let z : _≡_ {A = ℕ} 0 1 = cc in absurd (omega arith)
-        go false e = ltb-false limit (length (next c k)) e
+        go false e = ltb-false limit (length (nextCells c k)) e
 
-    key-count : length (textOf (next c k)) ≡ n
+    key-count : length (textOf (nextCells c k)) ≡ n
     key-count =
-        let w : Done (length (textOf (next c k))) ≡ Done n = writes-answer _ _ (done-key key-done) (length o) _ (room key-done) refl ∙ q in
+        let w : Done (length (textOf (nextCells c k))) ≡ Done n =
+        writes-answer _ _ (done-key key-done) (length o) _ (room key-done) refl ∙ q in
         cc
 
-    key-comp : keyed c k (length o) .comp ≡ holding c (next c k)
-    unfolding keyed changed keyNext
-    key-comp = rw q (ap (λ (x : Mode). inMode x (holding c (next c k)) c) v)
+    key-comp : keyed c k (length o) .comp ≡ holding c (nextCells c k)
+    unfolding keyed leaving keyNext
+    key-comp = rw q (ap (λ (x : Mode). inMode x (holding c (nextCells c k)) c) v)
 
-    key-text : take n (output (keyOutcome c k) o) ≡ textOf (next c k)
+    key-text : take n (output (keyOutcome c k) o) ≡ textOf (nextCells c k)
     key-text =
         rw (← writes-output _ _ (done-key key-done) o _ (room key-done) refl)
-        (take-at (textOf (next c k)) (drop (length (textOf (next c k))) o) n key-count)
-
-method-held : (c : Composition) (xs : List Cell) → holding c xs .method ≡ c .method
-unfolding holding
-method-held c xs = refl
-
-mode-held : (c : Composition) (xs : List Cell) → holding c xs .mode ≡ c .mode
-unfolding holding
-mode-held c xs = refl
+        (take-at (textOf (nextCells c k)) (drop (length (textOf (nextCells c k))) o) n key-count)
 
 -- ---- the line
 pub record Typing (m : InputMethod) (keys : List ℕ) (c : Composition) (text : List ℕ) (n i : ℕ) : Type 0 where
-  pub cells : length (c .cells) ≡ limit
   pub sound : isSound c ≡ true
   pub method : c .method ≡ m
   pub mode : c .mode ≡ Vietnamese
-  pub rest : typed m [] keys ≡ typed m (used c) (drop i keys)
+  pub rest : keysMade m [] keys ≡ keysMade m (used c) (drop i keys)
   pub shown : take n text ≡ textOf (used c)
 
 typing-start : (m : InputMethod) (keys text : List ℕ) → Typing m keys (created m) text 0 0
 unfolding created empty used textOf
 typing-start m keys text =
-    record { cells = length-blanks limit; sound = new-sound m; method = refl; mode = refl; rest = refl; shown = refl }
+    record { sound = new-sound m; method = refl; mode = refl; rest = refl; shown = refl }
 
 module _ (m : InputMethod) (keys : List ℕ) (c : Composition) (text : List ℕ) (n i : ℕ) (t : Typing m keys c text n i) where
-  pub typing-done : length keys ≤ i → typed m [] keys ≡ made (used c)
-  unfolding typed
+  pub typing-done : length keys ≤ i → keysMade m [] keys ≡ made (used c)
+  unfolding keysMade
   typing-done h = t .rest ∙ rw (drop-of-length-le keys h) refl
 
-  module _ (a : allLetters keys ≡ true) (h : i < length keys) (l : length text ≡ 32) (k : ℕ) (e : k ≡ getD keys i 0) where
+  module _ (a : allLetters keys ≡ true) (h : i < length keys) (l : length text ≡ limit) (k : ℕ) (e : k ≡ getD keys i 0) where
     letter : inAlphabet k ≡ true
     letter = rw e (all-at keys i a h)
 
-    cells-next : next c k ≡ keyCells m (used c) k
-    unfolding next
+    cells-next : nextCells c k ≡ keyCells m (used c) k
+    unfolding nextCells
     cells-next = rw (t .method) refl
 
-    turn : typed m [] keys ≡ pick (ltb limit (length (next c k))) full (typed m (next c k) (drop (i + 1) keys))
-    unfolding typed
+    turn : keysMade m [] keys ≡ pick (ltb limit (length (nextCells c k))) full (keysMade m (nextCells c k) (drop (i + 1) keys))
+    unfolding keysMade
     turn = t .rest ∙ rw (add-one i, drop-cons keys i 0 h, ← e, ← cells-next) refl
 
-    pub typing-full : (y : Changed) (r : Refusal) → y ≡ keyed c k (length text) → y .answer ≡ Refused r → (typed m [] keys ≡ full) × (r ≡ Full)
-    unfolding keyed changed
+    pub typing-full : (y : After) (r : Refusal) → y ≡ keyed c k (length text) → y .answer ≡ Refused r
+        → (keysMade m [] keys ≡ full) × (r ≡ Full)
+    unfolding keyed leaving
     typing-full y r d q =
-        let w = key-full c k text (t .sound) (t .mode) letter l r (sym (ap (λ (z : Changed). z .answer) d) ∙ q) in
-        (turn ∙ rw (lt-ltb limit (length (next c k)) (w .0)) refl, w .1)
+        let w = key-full c k text (t .sound) (t .mode) letter l r (sym (ap (λ (z : After). z .answer) d) ∙ q) in
+        (turn ∙ rw (lt-ltb limit (length (nextCells c k)) (w .0)) refl, w .1)
 
-    pub typing-on : (y : Changed) (j : ℕ) (new : List ℕ) → y ≡ keyed c k (length text) → y .answer ≡ Done j → new ≡ output (keyOutcome c k) text → Typing m keys (y .comp) new j (i + 1)
-    unfolding keyed changed
+    pub typing-on : (y : After) (j : ℕ) (new : List ℕ) → y ≡ keyed c k (length text) → y .answer ≡ Done j
+        → new ≡ output (keyOutcome c k) text → Typing m keys (y .comp) new j (i + 1)
+    unfolding keyed leaving
     typing-on y j new d q f =
-        let g : answer (keyOutcome c k) (length text) ≡ Done j = sym (ap (λ (z : Changed). z .answer) d) ∙ q in
+        let g : answer (keyOutcome c k) (length text) ≡ Done j = sym (ap (λ (z : After). z .answer) d) ∙ q in
         let w = key-done c k text (t .sound) (t .mode) letter l j g in
-        let b : y .comp ≡ holding c (next c k) = ap (λ (z : Changed). z .comp) d ∙ key-comp c k text (t .sound) (t .mode) letter l j g in
-        let u : used (y .comp) ≡ next c k = ap used b ∙ used-holding c (next c k) in
-        let p : y .comp ≡ keyed c k (length text) .comp = ap (λ (z : Changed). z .comp) d in
+        let b : y .comp ≡ holding c (nextCells c k) = ap (λ (z : After). z .comp) d ∙ key-comp c k text (t .sound) (t .mode) letter l j g in
+        let u : used (y .comp) ≡ nextCells c k = ap used b ∙ used-holding c (nextCells c k) in
+        let p : y .comp ≡ keyed c k (length text) .comp = ap (λ (z : After). z .comp) d in
         record {
-          cells = rw p (key-length c k (length text) (t .sound) (t .cells));
-          sound = rw p (key-sound c k (length text) (t .sound) (t .cells));
-          method = ap (λ (z : Composition). z .method) b ∙ method-held c (next c k) ∙ t .method;
-          mode = ap (λ (z : Composition). z .mode) b ∙ mode-held c (next c k) ∙ t .mode;
-          rest = turn ∙ rw (le-ltb limit (length (next c k)) w, u) refl;
+          sound = rw p (key-sound c k (length text) (t .sound));
+          method = ap (λ (z : Composition). z .method) b ∙ method-held c (nextCells c k) ∙ t .method;
+          mode = ap (λ (z : Composition). z .mode) b ∙ mode-held c (nextCells c k) ∙ t .mode;
+          rest = turn ∙ rw (le-ltb limit (length (nextCells c k)) w, u) refl;
           shown = rw (f, u) (key-text c k text (t .sound) (t .mode) letter l j g);
         }
 
@@ -168,21 +162,22 @@ module _ (m : InputMethod) (keys : List ℕ) (c₀ : Composition) (e : c₀ ≡ 
   typing-first text = subst (λ (d : Composition). Typing (d .method) keys d text 0 0) (sym e) (typing-start m keys text)
 
   module _ (c : Composition) (text : List ℕ) (n i : ℕ) (t : Typing (c₀ .method) keys c text n i) where
-    pub line-refused : allLetters keys ≡ true → i < length keys → length text ≡ 32 → (k : ℕ) → k ≡ getD keys i 0 → (y : Changed) (r : Refusal) → y ≡ keyed c k (length text)
-        → y .answer ≡ Refused r → typedLine (typed m [] keys) ≡ refusedLine r
-    unfolding typedLine
+    pub line-refused : allLetters keys ≡ true → i < length keys → length text ≡ limit → (k : ℕ) → k ≡ getD keys i 0
+        → (y : After) (r : Refusal) → y ≡ keyed c k (length text)
+        → y .answer ≡ Refused r → madeLine (keysMade m [] keys) ≡ refusedLine r
+    unfolding madeLine
     line-refused a h l k q y r d f =
         let w = typing-full (c₀ .method) keys c text n i t a h l k q y r d f in
         rw (← begun, w .0, w .1) refl
 
-    pub line-typed : length keys ≤ i → typedLine (typed m [] keys) ≡ textLine (take n text)
-    unfolding typedLine
+    pub line-typed : length keys ≤ i → madeLine (keysMade m [] keys) ≡ textLine (take n text)
+    unfolding madeLine
     line-typed h = rw (← begun, typing-done (c₀ .method) keys c text n i t h, t .shown) refl
 
-    pub text-fits : (length (take n text) ≤ 32) × (allLetters (take n text) ≡ true)
+    pub text-fits : (length (take n text) ≤ limit) × (allLetters (take n text) ≡ true)
     unfolding textOf
     text-fits =
-        let u = used-length c (t .sound) (t .cells) in
+        let u = used-length c (t .sound) in
         let f = count-fits c (t .sound) in
         let g : length (take n text) ≡ length (used c) = ap length (t .shown) ∙ length-map (used c) shown in
-        (omega arith, ap allLetters (t .shown) ∙ text-letters (used c) (used-cells c (t .sound) (t .cells)))
+        (omega arith, ap allLetters (t .shown) ∙ text-letters (used c) (used-cells c (t .sound)))

@@ -1,10 +1,11 @@
 -- Document 01, "Examples to hold it to": what the program `wordline` prints for "one line of keys per fresh composition".
-use Prim.Native.Nat.{ℕ, _+_, _*_}
+use Prim.Native.Nat.{ℕ, _+_, _/_, _%_}
 use mathlib.Core.List.{List, [], _∷_, _++_}
 use lib.Dec.{ltb}
-use lib.ListN.{length}
+use lib.ListN.{length, getD}
 use Rattle.p0_choice.specs.Choice.{pick}
-use Rattle.p0_choice.specs.Text.{word}
+use Rattle.p0_choice.specs.Text.{word, lineEnd}
+use Rattle.p0_refusals.specs.Limits.{byteLimit}
 use Rattle.p0_refusals.specs.Refusals.{numberOf}
 use Rattle.p0_refusals.specs.declared.Refusal.{Refusal}
 use Rattle.p0_refusals.specs.declared.Refusal.the-variants.{Full}
@@ -16,44 +17,46 @@ use Rattle.p3_step.specs.Key.{keyCells}
 use Rattle.p4_spelling.specs.Verdict.{verdict}
 use Rattle.p0_refusals.specs.Answers.{Outcome, writes, refuses}
 use Rattle.p5_utf8.specs.Rfc3629.{encodeAll}
-use Rattle.p5_utf8_read.specs.Read.{byteLimit, reading}
+use Rattle.p5_utf8_text.specs.Read.{reading}
 
 -- "A program line or other bytes to be read as UTF-8: at most 256": by one byte more a line is refused, whatever follows it
 abbrev pub most : ℕ
 most = byteLimit + 1
 
--- the most that a line prints: the cells' letters, of three bytes at most, a tab, `yes` and U+000A
-abbrev pub lineRoom : ℕ
-lineRoom = 3 * limit + 5
+unfoldable pub digit : ℕ → ℕ
+digit n = getD (word "0123456789") n 0
 
--- a number of the table, of which none is over 10, in decimal digits
+-- a number of the table, of which none has more than two decimal digits
 unfoldable pub digits : ℕ → List ℕ
-digits n = pick (ltb n 10) ((48 + n) ∷ []) (49 ∷ (38 + n) ∷ [])
+digits n = pick (ltb n 10) (digit n ∷ []) (digit (n / 10) ∷ digit (n % 10) ∷ [])
 
 -- "a refused line prints `refused` and the number after one space. Every printed line ends in U+000A"
 unfoldable pub refusedLine : Refusal → List ℕ
-refusedLine r = word "refused " ++ (digits (numberOf r) ++ (10 ∷ []))
+refusedLine r = word "refused " ++ (digits (numberOf r) ++ (lineEnd ∷ []))
+
+abbrev pub tab : ℕ
+tab = 0x09
 
 -- "Per line it prints the text, a tab, and yes or no for the text's verdict"
 unfoldable pub textLine : List ℕ → List ℕ
-textLine text = encodeAll text ++ (9 ∷ (pick (verdict text) (word "yes") (word "no") ++ (10 ∷ [])))
+textLine text = encodeAll text ++ (tab ∷ (pick (verdict text) (word "yes") (word "no") ++ (lineEnd ∷ [])))
 
 -- the cells that a line of keys makes, or none where "a letter must be appended and 32 cells are used"
-pub data Typed : Type 0 where
-  made : List Cell → Typed
-  full : Typed
+pub data KeysMade : Type 0 where
+  made : List Cell → KeysMade
+  full : KeysMade
 
-unfoldable pub typed : InputMethod → List Cell → List ℕ → Typed
-typed m cs [] = made cs
-typed m cs (k ∷ ks) = pick (ltb limit (length (keyCells m cs k))) full (typed m (keyCells m cs k) ks)
+unfoldable pub keysMade : InputMethod → List Cell → List ℕ → KeysMade
+keysMade m cs [] = made cs
+keysMade m cs (k ∷ ks) = pick (ltb limit (length (keyCells m cs k))) full (keysMade m (keyCells m cs k) ks)
 
-unfoldable pub typedLine : Typed → List ℕ
-typedLine (made cs) = textLine (textOf cs)
-typedLine full = refusedLine Full
+unfoldable pub madeLine : KeysMade → List ℕ
+madeLine (made cs) = textLine (textOf cs)
+madeLine full = refusedLine Full
 
 -- the bytes of a line are keys; the refusals of reading them go before 2
 unfoldable pub keysLine : InputMethod → Outcome → List ℕ
-keysLine m (writes ks) = typedLine (typed m [] ks)
+keysLine m (writes ks) = madeLine (keysMade m [] ks)
 keysLine m (refuses r) = refusedLine r
 
 unfoldable pub lineOut : InputMethod → List ℕ → List ℕ

@@ -7,7 +7,7 @@ use Rattle.p0_refusals.specs.declared.Refusal.the-variants.{NoMethod}
 use Rattle.p2_input_method.specs.declared.InputMethod.the-variants.{Telex, Vni}
 use Rattle.p4_rows.specs.Lookup.{sameWord}
 use Rattle.p0_refusals.specs.Answers.{Outcome, writes, refuses}
-use Rattle.p5_utf8_read.specs.Read.{reading}
+use Rattle.p5_utf8_text.specs.Read.{reading}
 use Rattle.p7_line.specs.declared.Begun.{Begun}
 use Rattle.p7_line.specs.declared.Begun.the-variants.{With, Refused}
 
@@ -16,5 +16,5 @@ methodNamed (writes name) =
     pick (sameWord name (word "telex")) (With Telex) (pick (sameWord name (word "vni")) (With Vni) (Refused NoMethod))
 methodNamed (refuses r) = Refused r
 
-unfoldable pub methodOf : List ℕ → Begun
-methodOf line = methodNamed (reading line)
+unfoldable pub begunBy : List ℕ → Begun
+begunBy line = methodNamed (reading line)

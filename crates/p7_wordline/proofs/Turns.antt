@@ -16,7 +16,7 @@ use Rattle.io.specs.Counts.{clamped}
 use Rattle.p0_choice.specs.Choice.{pick}
 use Rattle.p0_refusals.specs.Answers.{onto}
 use Rattle.p2_input_method.specs.declared.InputMethod.{InputMethod}
-use Rattle.p7_feed.specs.Run.{State, state, stateOf, runTo, runOut, lineAfter, partsTo}
+use Rattle.p7_feed.specs.Mirror.{State, state, stateOf, runTo, runOut, lineAfter, partsTo}
 use Rattle.p7_feed.specs.declared.Carry.{Carry}
 use Rattle.p7_feed.specs.declared.Phase.{Phase}
 use Rattle.p7_feed.specs.declared.Phase.the-variants.{Start, Keys, Ended}
@@ -24,7 +24,7 @@ use Rattle.p7_feed.proofs.Whole.{part-after}
 use Rattle.p7_wordline.specs.declared.Input.{Input}
 use Rattle.p7_wordline.specs.declared.Input.the-variants.{Bytes, NoMore, Interrupted, Failed}
 use Rattle.p7_wordline.specs.declared.Took.{Took}
-use Rattle.p7_wordline.specs.Turns.{failure, inputOf, amount, bytesOf, isOver, mayRead, goesOn, Came}
+use Rattle.p7_wordline.specs.Mirror.{failure, inputOf, amount, bytesRead, isOver, mayRead, goesOn, Came}
 
 -- ---- what a read gave; a signed number is compared by its bits
 module _ (said error : ℤ) (n : ℕ) (f : SFits w64 said) where
@@ -54,7 +54,8 @@ module _ (said error : ℤ) (n : ℕ) (f : SFits w64 said) where
     unfolding inputOf
     from-zero r e = go said (ap (λ (z : ℤ). ltZ z (pos 0)) (sym (toZ-ofZ w64 said f)) ∙ q) e
       where
-        go : (z : ℤ) → ltZ z (pos 0) ≡ false → ((k : ℕ) → z ≡ pos k → r ≡ pick (eqb k 0) NoMore (Bytes (clamped z n))) → r ≡ inputOf z error n
+        go : (z : ℤ) → ltZ z (pos 0) ≡ false → ((k : ℕ) → z ≡ pos k → r ≡ pick (eqb k 0) NoMore (Bytes (clamped z n)))
+            → r ≡ inputOf z error n
         go (pos k) h e = e k refl
         go (negsuc k) h e = let z : _≡_ {A = Bool} true false = h in absurd (cc-no z)
           where
@@ -89,17 +90,17 @@ pub part-fits : (input : Input) (k m n : ℕ) (part p : List ℕ) → k ≡ amou
 part-fits input k m n part p a l e h = rw (e, length-take) (omega arith)
 
 module _ (input : Input) (k : ℕ) (part p : List ℕ) (e : k ≡ amount input) (q : p ≡ take k part) where
-  given : p ≡ bytesOf input part
-  unfolding bytesOf
+  given : p ≡ bytesRead input part
+  unfolding bytesRead
   given = rw (← e) q
 
-  pub held-given : (s t : State) → t ≡ runTo s p → t ≡ runTo s (bytesOf input part)
+  pub held-given : (s t : State) → t ≡ runTo s p → t ≡ runTo s (bytesRead input part)
   held-given s t h = rw (← given) h
 
-  pub laid-given : (line line′ : List ℕ) (len : ℕ) → line′ ≡ lineAfter line len p → line′ ≡ lineAfter line len (bytesOf input part)
+  pub laid-given : (line line′ : List ℕ) (len : ℕ) → line′ ≡ lineAfter line len p → line′ ≡ lineAfter line len (bytesRead input part)
   laid-given line line′ len h = rw (← given) h
 
-  pub printed-given : (s : State) (o o′ : List ℕ) → o′ ≡ onto (runOut s p) o → o′ ≡ onto (runOut s (bytesOf input part)) o
+  pub printed-given : (s : State) (o o′ : List ℕ) → o′ ≡ onto (runOut s p) o → o′ ≡ onto (runOut s (bytesRead input part)) o
   printed-given s o o′ h = rw (← given) h
 
 -- ---- whether another follows
@@ -177,7 +178,8 @@ pub came-none : (line : List ℕ) (c : Carry) → c ≡ record { len = 0; phase 
 unfolding Came partsTo
 came-none line c e = ([], rw e refl)
 
-pub came-more : (line line′ : List ℕ) (c c′ : Carry) (part : List ℕ) → Came line c → stateOf line′ c′ ≡ runTo (stateOf line c) part → Came line′ c′
+pub came-more : (line line′ : List ℕ) (c c′ : Carry) (part : List ℕ) → Came line c → stateOf line′ c′ ≡ runTo (stateOf line c) part
+    → Came line′ c′
 unfolding Came
 came-more line line′ c c′ part came e =
     (came .0 ++ (part ∷ []), e ∙ ap (λ (s : State). runTo s part) (came .1) ∙ sym (part-after (state [] Start) (came .0) part))

@@ -6,14 +6,14 @@ ghost use mathlib.Core.Bool.{true, false};
 ghost use lib.ListN.{length};
 ghost use Rattle.p0_refusals.specs.Answers.{onto};
 ghost use Rattle.p7_line.specs.Line.{most};
-ghost use Rattle.p7_feed.specs.Run.{stateOf, partMost, outRoom, runTo, runOut, lineAfter};
-ghost use Rattle.p7_wordline.specs.Turns.{inputOf, amount as amountOf, bytesOf, isOver, goesOn, Came};
+ghost use Rattle.p7_feed.specs.Mirror.{stateOf, partMost, outRoom, runTo, runOut, lineAfter};
+ghost use Rattle.p7_wordline.specs.Mirror.{inputOf, amount as amountOf, bytesRead, isOver, goesOn, Came};
 ghost use Rattle.p7_wordline.specs.declared.Input.the-variants.{NoMore};
 use libc::STDIN_FILENO;
 use libc::STDOUT_FILENO;
-use p0_slices as slices;
 use p7_feed::Carry;
 use p7_feed::Phase;
+use p7_slices as slices;
 
 // What a read gave: so many bytes, the end of the input, or none, because a signal cut it short or it failed.
 enum Input {
@@ -60,11 +60,14 @@ fn amount(input: Input) -> usize
 
 // One read into `part`; what its bytes print stands at the start of `out`, and is written.
 fn turn(part: &mut [u8], line: &mut [u8], carry: Carry, out: &mut [u8]) -> Took
-    requires { ⌜ (length (now part) ≡ partMost) × (length (now line) ≡ most) × (carry .len ≤ most) × (length (now out) ≡ outRoom) × (isOver (carry .phase) ≡ false) ⌝ }
-    ensures held { λ r. ⌜ (stateOf (now (line .exit)) (r .carry) ≡ runTo (stateOf (now (line .entry)) carry) (bytesOf (r .input) (now (part .exit))))
-        × (now (line .exit) ≡ lineAfter (now (line .entry)) (carry .len) (bytesOf (r .input) (now (part .exit))))
+    requires { ⌜ (length (now part) ≡ partMost) × (length (now line) ≡ most) × (carry .len ≤ most) × (length (now out) ≡ outRoom)
+        × (isOver (carry .phase) ≡ false) ⌝ }
+    ensures held { λ r. ⌜ (stateOf (now (line .exit)) (r .carry) ≡ runTo (stateOf (now (line .entry)) carry)
+        (bytesRead (r .input) (now (part .exit))))
+        × (now (line .exit) ≡ lineAfter (now (line .entry)) (carry .len) (bytesRead (r .input) (now (part .exit))))
         × (r .carry .len ≤ most) ⌝ }
-    ensures printed { λ r. ⌜ now (out .exit) ≡ onto (runOut (stateOf (now (line .entry)) carry) (bytesOf (r .input) (now (part .exit)))) (now (out .entry)) ⌝ }
+    ensures printed { λ r. ⌜ now (out .exit) ≡ onto (runOut (stateOf (now (line .entry)) carry) (bytesRead (r .input) (now (part .exit))))
+        (now (out .entry)) ⌝ }
 {
     let said = libc::read(STDIN_FILENO, part);
     let error = os::errno();

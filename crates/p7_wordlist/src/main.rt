@@ -1,16 +1,20 @@
 // Prints every listed word, one to a line, in UTF-8 and in order.
 use libc::STDOUT_FILENO;
 use p0_refusals::Answer;
-use p0_slices as slices;
+use p4_spelling::LONGEST;
+use p7_slices as slices;
+
+// The most bytes of a word.
+const WORD: usize = p5_utf8_text::writer::WIDTH * LONGEST;
 
 // Writes a word and a line feed; false where it is not written.
 fn print(word: &[u32]) -> bool {
-    let mut bytes = [0u8; 32];
-    let given = p5_utf8_write::write(word, &mut bytes);
+    let mut bytes = [0u8; WORD + 1];
+    let given = p5_utf8_text::writer::write(word, &mut bytes);
     match given {
         Answer::Refused(_) => false,
         Answer::Done(n) => {
-            if 31 < n {
+            if WORD < n {
                 return false;
             }
             bytes[n] = 10;
@@ -20,7 +24,7 @@ fn print(word: &[u32]) -> bool {
 }
 
 fn main() {
-    let mut letters = [0u32; 8];
+    let mut letters = [0u32; LONGEST];
     let mut n: usize = 0;
     while n < p5_lister::total() {
         let given = p5_lister::word_number(n, &mut letters);

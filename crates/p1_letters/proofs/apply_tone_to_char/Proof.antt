@@ -13,4 +13,8 @@ unfolding toneRows rowOf word
 apply-tone-to-char-spec =
     tie.close
     (tie.spec
-    (λ c κs. search answers) (λ c κs. search answers) (λ c κs. search answers) (λ c κs. search answers) (λ c κs. search answers) (λ c κs. search answers) (λ c κs. search answers) (λ c κs. search answers) (λ c κs. search answers) (λ c κs. search answers) (λ c κs. search answers) (λ c κs. search answers) (λ c κs. search answers) (λ c. search answers) (λ c. search answers) (λ c. search answers) (λ c. search answers) (λ c. search answers) (λ c. search answers) (λ c. search answers) (λ c. search answers) (λ c. search answers) (λ c. search answers) (λ c. search answers) (λ c. search answers) (λ c. search (on-none, picks) depth 20))
+    (λ c κs. search answers) (λ c κs. search answers) (λ c κs. search answers) (λ c κs. search answers) (λ c κs. search answers)
+    (λ c κs. search answers) (λ c κs. search answers) (λ c κs. search answers) (λ c κs. search answers) (λ c κs. search answers)
+    (λ c κs. search answers) (λ c κs. search answers) (λ c κs. search answers) (λ c. search answers) (λ c. search answers)
+    (λ c. search answers) (λ c. search answers) (λ c. search answers) (λ c. search answers) (λ c. search answers) (λ c. search answers)
+    (λ c. search answers) (λ c. search answers) (λ c. search answers) (λ c. search answers) (λ c. search (on-none, picks) depth 20))

@@ -11,7 +11,8 @@ use Rattle.p1_letters.proofs.strip_tone.Tie as tie
 keys : List (List ℕ)
 unfolding word
 keys =
-    word "àãạả" ∷ word "á" ∷ word "ắằẳẵặ" ∷ word "ấầẩẫậ" ∷ word "èẹẻẽ" ∷ word "é" ∷ word "ếềểễệ" ∷ word "ìĩỉị" ∷ word "í" ∷ word "òõọỏ" ∷ word "ó" ∷ word "ốồổỗộ" ∷ word "ớờởỡợ" ∷ word "ùũụủ" ∷ word "ú" ∷ word "ứừửữự" ∷ word "ýỳỵỷỹ" ∷ []
+    word "àãạả" ∷ word "á" ∷ word "ắằẳẵặ" ∷ word "ấầẩẫậ" ∷ word "èẹẻẽ" ∷ word "é" ∷ word "ếềểễệ" ∷ word "ìĩỉị" ∷ word "í" ∷ word "òõọỏ"
+    ∷ word "ó" ∷ word "ốồổỗộ" ∷ word "ớờởỡợ" ∷ word "ùũụủ" ∷ word "ú" ∷ word "ứừửữự" ∷ word "ýỳỵỷỹ" ∷ []
 
 pub strip-tone-spec : {M : Type 1} → statement M
 unfolding toneOff toneRows offIn word keys

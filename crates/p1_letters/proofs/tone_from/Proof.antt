@@ -13,4 +13,5 @@ unfolding toneFrom toneColumn word
 tone-from-spec =
     tie.close
     (tie.spec
-    (λ c. search answers) (λ c. search answers) (λ c. search answers) (λ c. search answers) (λ c. search answers) (λ c. search (from-none, pick-none, refl) depth 12))
+    (λ c. search answers) (λ c. search answers) (λ c. search answers) (λ c. search answers) (λ c. search answers)
+    (λ c. search (from-none, pick-none, refl) depth 12))

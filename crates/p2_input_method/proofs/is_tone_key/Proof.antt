@@ -8,4 +8,5 @@ pub is-tone-key-spec : {M : Type 1} → statement M
 is-tone-key-spec =
     tie.close
     (tie.spec
-    (λ c. search needs) (λ c κs. search needs) (λ c. search needs) (λ c κs. search needs) (λ c. search (by-telex isToneKey)) (λ c. search (by-vni isToneKey)))
+    (λ c. search needs) (λ c κs. search needs) (λ c. search needs) (λ c κs. search needs) (λ c. search (by-telex isToneKey))
+    (λ c. search (by-vni isToneKey)))

@@ -9,4 +9,5 @@ pub mark-for-spec : {M : Type 1} → statement M
 mark-for-spec =
     tie.close
     (tie.spec
-    (λ c. search answers) (λ c κs. search answers) (λ c. search answers) (λ c κs. search answers) (λ c. search answers) (λ c. search answers))
+    (λ c. search answers) (λ c κs. search answers) (λ c. search answers) (λ c κs. search answers) (λ c. search answers)
+    (λ c. search answers))

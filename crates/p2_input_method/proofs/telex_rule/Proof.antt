@@ -4,7 +4,8 @@ use mathlib.Core.List.{[], _∷_}
 use lib.ListN.{getD}
 use Rattle.p0_choice.specs.Text.{word}
 use Rattle.p0_choice.proofs.Arms.{arm}
-use Rattle.p2_input_method.specs.Rules.{markRule, markRules, noRule}
+use Rattle.p2_input_method.specs.Rules.{markRule, markRules}
+use Rattle.p2_input_method.specs.Mirror.{noRule}
 use Rattle.p2_input_method.specs.declared.InputMethod.the-variants.{Telex}
 use Rattle.p2_input_method.proofs.Rules.{rule-past}
 use Rattle.p2_input_method.proofs.telex_rule.Statement.{statement}

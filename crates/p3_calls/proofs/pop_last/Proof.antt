@@ -1,10 +1,7 @@
 use borrow.Author.Needs.{needs}
-use Rattle.p3_cells.proofs.Text.{length-under}
-use Rattle.p3_calls.proofs.Output.{pop-below, pop-fits, removal}
+use Rattle.p3_calls.proofs.Output.{removal-below, removal-fits, removal}
 use Rattle.p3_calls.proofs.pop_last.Statement.{statement}
 use Rattle.p3_calls.proofs.pop_last.Tie as tie
-
-ruleset answers = (removal, length-under)
 
 pub pop-last-spec : {M : Type 1} → statement M
 pop-last-spec =
@@ -12,15 +9,15 @@ pop-last-spec =
     (tie.spec
     (λ c κs. search needs)
     (λ c κs. search needs)
-    (λ c. (search answers, search answers))
+    (λ c. (search removal, search removal))
     (λ c κs. search needs)
-    (λ c. (search answers, search answers))
+    (λ c. (search removal, search removal))
     (λ c. search needs)
     (λ c κs. search needs)
-    (λ c. (search answers, search answers))
+    (λ c. (search removal, search removal))
     (λ c κs. search needs)
     (λ c. search needs)
-    (λ c. search pop-below)
-    (λ c κs. (search pop-fits, search needs))
+    (λ c. search removal-below)
+    (λ c κs. (search removal-fits, search needs))
     (λ c. search needs)
-    (λ c. (search answers, search answers)))
+    (λ c. (search removal, search removal)))

@@ -12,4 +12,5 @@ unfolding enabledSet
 set-enabled-spec =
     tie.close
     (tie.spec
-    (λ c κs. search answers) (λ c κs. search answers) (λ c. search answers) (λ c κs. search answers) (λ c. search answers) (λ c. search answers))
+    (λ c κs. search answers) (λ c κs. search answers) (λ c. search answers) (λ c κs. search answers) (λ c. search answers)
+    (λ c. search answers))

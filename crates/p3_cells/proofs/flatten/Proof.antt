@@ -20,6 +20,7 @@ flatten-spec =
     tie.close
     (tie.spec
     Inv-loop μ-loop
-    (λ c. search answers) (λ c. search answers) (λ c. search answers) (λ c κs. search answers) (λ c. search answers) (λ c. search answers) (λ c. search answers) (λ c. search answers)
+    (λ c. search answers) (λ c. search answers) (λ c. search answers) (λ c κs. search answers) (λ c. search answers) (λ c. search answers)
+    (λ c. search answers) (λ c. search answers)
     (λ c. (omega arith, simp length-set (search needs), search answers))
     (λ c. search answers) (λ c. search answers))

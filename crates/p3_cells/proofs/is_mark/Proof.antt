@@ -9,4 +9,5 @@ pub is-mark-spec : {M : Type 1} → statement M
 unfolding marks word
 is-mark-spec =
     tie.close
-    (tie.spec (λ c. arm-among marks (word "âêôăđơư") _ (c .match .keys1) tt) (λ c. rest-among _ marks (word "âêôăđơư" ∷ []) _ (c .match .rest) tt))
+    (tie.spec (λ c. arm-among marks (word "âêôăđơư") _ (c .match .keys1) tt)
+    (λ c. rest-among _ marks (word "âêôăđơư" ∷ []) _ (c .match .rest) tt))

@@ -9,4 +9,5 @@ pub shown-spec : {M : Type 1} → statement M
 shown-spec =
     tie.close
     (tie.spec
-    (λ c κs. search answers) (λ c. search answers) (λ c κs. search answers) (λ c. search answers) (λ c κs. search answers) (λ c. search answers))
+    (λ c κs. search answers) (λ c. search answers) (λ c κs. search answers) (λ c. search answers) (λ c κs. search answers)
+    (λ c. search answers))

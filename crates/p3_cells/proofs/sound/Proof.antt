@@ -7,6 +7,7 @@ use borrow.Author.Needs.{needs}
 use Rattle.p0_choice.specs.Choice.{pick}
 use Rattle.p3_cells.specs.Cells.{limit, isSound}
 use Rattle.p3_cells.proofs.SoundTest.{fitsFrom, sound-long, sound-start, used-bad, used-on, past-start, past-on, past-end}
+use Rattle.p3_cells.proofs.Text.{length-under}
 use Rattle.p3_cells.proofs.sound.Statement.{statement}
 use Rattle.p3_cells.proofs.sound.Tie as tie
 
@@ -28,7 +29,7 @@ sound-spec =
     (tie.spec
     Inv-loop μ-loop Inv-loop2 μ-loop2
     (λ c. search sound-long)
-    (λ c. (search needs, search sound-start))
+    (λ c. (search needs, search (sound-start, length-under)))
     (λ c. search needs) (λ c. search needs) (λ c κs. search needs)
     (λ c. search used-bad)
     (λ c. search needs) (λ c. search needs)

@@ -9,4 +9,5 @@ pub tone-fits-spec : {M : Type 1} → statement M
 tone-fits-spec =
     tie.close
     (tie.spec
-    (λ c. search answers) (λ c. search answers) (λ c κs. search answers) (λ c. search answers) (λ c κs. search answers) (λ c. search answers))
+    (λ c. search answers) (λ c. search answers) (λ c κs. search answers) (λ c. search answers) (λ c κs. search answers)
+    (λ c. search answers))

@@ -6,9 +6,9 @@ use borrow.Author.Needs.{needs}
 use Rattle.p3_cells.specs.Cells.{limit}
 use Rattle.p3_cells.proofs.SoundTest.{fitsFrom}
 use Rattle.p3_cells.proofs.Text.{length-under}
-use Rattle.p3_row.proofs.Fill.{Filled, fill-none, fill-more}
+use Rattle.p3_cells.proofs.Fill.{Filled, fill-none, fill-more}
 use Rattle.p3_key.proofs.Faults.{faultsBy, faults-none, faults-used, faults-past}
-use Rattle.p3_key.proofs.Letters.{lettersTo, letters-none}
+use Rattle.p3_key.proofs.Letters.{lettersTo, no-letters-yet}
 use Rattle.p3_key.proofs.Owner.{letters-stored, owner-right}
 use Rattle.p3_key.proofs.compose.Statement.{statement}
 use Rattle.p3_key.proofs.compose.Tie as tie
@@ -45,29 +45,40 @@ compose-spec =
     (λ c κs. search needs)
     -- the row, and the cells in use
     (λ c. (search needs, search needs, search needs, search fill-none, search faults-none))
-    (λ c. search needs) (λ c. search needs) (λ c. search needs) (λ c. search needs) (λ c κs. search needs) (λ c. search needs) (λ c. search needs) (λ c. search needs)
+    (λ c. search needs) (λ c. search needs) (λ c. search needs) (λ c. search needs) (λ c κs. search needs) (λ c. search needs)
+    (λ c. search needs) (λ c. search needs)
     (λ c.
-    let n = long (c .before .before .before .before .before .before) in
-    (search needs, simp length-set (search needs), search needs, fill-more _ _ _ _ (c .before .before .before .loop .inv .3) refl (search needs) (omega arith), search faults-used))
+    let n = long (c .before .before .before .before .before .before) in (
+      search needs,
+      simp length-set (search needs),
+      search needs,
+      fill-more _ _ _ _ (c .before .before .before .loop .inv .3) refl
+          (search needs) (omega arith),
+      search faults-used,
+    ))
     -- the cells past them
     (λ c. (search needs, search needs, search needs, search needs))
     (λ c. search needs) (λ c. search needs) (λ c κs. search needs) (λ c. search needs) (λ c. search needs) (λ c. search needs)
     (λ c. (search needs, search needs, search needs, search faults-past))
-    -- the edit, and its stores
-    (λ c κs. search needs) (λ c. search needs) (λ c. search needs) (λ c. search needs) (λ c κs. search needs) (λ c. search needs) (λ c. search needs) (λ c. search needs) (λ c. search needs) (λ c κs. search needs) (λ c κs. search needs) (λ c. search needs) (λ c. search needs) (λ c κs. search needs) (λ c. search needs) (λ c. search needs)
+    -- the stroke, and its stores
+    (λ c κs. search needs) (λ c. search needs) (λ c. search needs) (λ c. search needs) (λ c κs. search needs) (λ c. search needs)
+    (λ c. search needs) (λ c. search needs) (λ c. search needs) (λ c κs. search needs) (λ c κs. search needs) (λ c. search needs)
+    (λ c. search needs) (λ c κs. search needs) (λ c. search needs) (λ c. search needs)
     -- the letters
-    (λ c. (search needs, search needs, search letters-none))
-    (λ c. search needs) (λ c. search needs) (λ c κs. search needs) (λ c. search needs) (λ c. search needs) (λ c. search needs) (λ c. search needs)
+    (λ c. (search needs, search needs, search no-letters-yet))
+    (λ c. search needs) (λ c. search needs) (λ c κs. search needs) (λ c. search needs) (λ c. search needs) (λ c. search needs)
+    (λ c. search needs)
     (λ c.
     let loop = c .before .before .before in
     let also = loop .before in
     let put = also .before in
-    let edit = put .before .before .before .before in
-    let start = edit .before .before .before .before .before .before .before .before .before .before in (
+    let stroke = put .before .before .before .before in
+    let start = stroke .before .before .before .before .before .before .before .before .before .before in (
       search needs,
       simp length-set (search needs),
-      letters-stored _ _ (start .args .t1 .cells) (edit .edit-of .result .at) (edit .edit-of .result .also) (put .put-cell .result) (also .also-cell .result) (start .args .out .now) _ _ _ _ (long start) (loop .loop3 .inv .2)
-          (c .letter-for .ensures) (c .before .before .loop3-test .taken) (edit .edit-of .ensures .3) (edit .edit-of .ensures .4),
+      letters-stored _ _ (start .args .t1 .cells) (stroke .stroke-of .result .at) (stroke .stroke-of .result .also) (put .put-cell .result)
+          (also .also-cell .result) (start .args .out .now) _ _ _ _ (long start) (loop .loop3 .inv .2)
+          (c .letter-for .ensures) (c .before .before .loop3-test .taken) (stroke .stroke-of .ensures .3) (stroke .stroke-of .ensures .4),
     ))
     (λ c. search needs)
     -- the return
@@ -75,13 +86,15 @@ compose-spec =
     let also = c .before .before in
     let put = also .before in
     let lower = put .before in
-    let edit = lower .before .before .before in
-    let sound = edit .before .before .before in
+    let stroke = lower .before .before .before in
+    let sound = stroke .before .before .before in
     let past-left = sound .before in
     let past = past-left .before in
     let row-left = past .before in
     let row = row-left .before in
     let most = row .before in
     let start = most .before .before in
-    owner-right _ _ _ _ _ _ _ _ _ _ _ _ _ _ _ _ _ (long start) (past .loop2 .inv .3) (past-left .loop2-test .left) (start .pre) (sound .is-sound .ensures) (most .at-most .ensures) (row .loop .inv .3) (row .loop .inv .0)
-    (row-left .loop-test .left) (search needs) (edit .edit-of .ensures .0) (lower .ascii-lower .ensures) (put .put-cell .ensures) (also .also-cell .ensures) (c .before .loop3 .inv .2) (c .before .loop3 .inv .0) (c .loop3-test .left)))
+    owner-right _ _ _ _ _ _ _ _ _ _ _ _ _ _ _ _ _ (long start) (past .loop2 .inv .3) (past-left .loop2-test .left) (start .pre)
+    (sound .is-sound .ensures) (most .at-most .ensures) (row .loop .inv .3) (row .loop .inv .0)
+    (row-left .loop-test .left) (search needs) (stroke .stroke-of .ensures .0) (lower .ascii-lower .ensures) (put .put-cell .ensures)
+    (also .also-cell .ensures) (c .before .loop3 .inv .2) (c .before .loop3 .inv .0) (c .loop3-test .left)))

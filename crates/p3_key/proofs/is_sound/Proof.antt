@@ -1,6 +1,6 @@
 use borrow.Author.Needs.{needs}
 use Rattle.p0_choice.proofs.Choices.{picks}
-use Rattle.p3_key.specs.Edit.{soundBy}
+use Rattle.p3_key.specs.Mirror.{soundBy}
 use Rattle.p3_key.proofs.is_sound.Statement.{statement}
 use Rattle.p3_key.proofs.is_sound.Tie as tie
 

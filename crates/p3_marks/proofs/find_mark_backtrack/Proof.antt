@@ -2,7 +2,7 @@ use borrow.Author.Needs.{needs}
 use Prim.Native.Nat.{_≤_}
 use mathlib.Core.Path.{_≡_}
 use lib.ListN.{length}
-use Rattle.p3_row.specs.Row.{rowCells}
+use Rattle.p3_cells.specs.Mirror.{rowCells}
 use Rattle.p3_marks.specs.Mark.{markBack, markPlace}
 use Rattle.p3_marks.proofs.Mark.{mark-no-key, mark-first, mark-out, mark-end, mark-found, mark-on}
 use Rattle.p3_marks.proofs.find_mark_backtrack.Statement.{statement}
@@ -20,4 +20,6 @@ pub find-mark-backtrack-spec : {M : Type 1} → statement M
 find-mark-backtrack-spec =
     tie.close
     (tie.spec Inv-loop μ-loop
-    (λ c κs. search answers) (λ c. search answers) (λ c. search answers) (λ c. search answers) (λ c. search answers) (λ c. search answers) (λ c. search answers) (λ c. search answers) (λ c κs. search answers) (λ c κs. search answers) (λ c. search answers) (λ c. search answers) (λ c. search answers) (λ c. search answers))
+    (λ c κs. search answers) (λ c. search answers) (λ c. search answers) (λ c. search answers) (λ c. search answers) (λ c. search answers)
+    (λ c. search answers) (λ c. search answers) (λ c κs. search answers) (λ c κs. search answers) (λ c. search answers)
+    (λ c. search answers) (λ c. search answers) (λ c. search answers))

@@ -9,4 +9,6 @@ pub find-ua-spec : {M : Type 1} → statement M
 find-ua-spec =
     tie.close
     (tie.spec
-    (λ c. search answers) (λ c. search answers) (λ c. search answers) (λ c κs. search answers) (λ c. search answers) (λ c. search answers) (λ c. search answers) (λ c. search answers) (λ c κs. search answers) (λ c. search answers) (λ c. search answers) (λ c. search answers) (λ c. search answers) (λ c κs. search answers) (λ c. search answers) (λ c. search answers))
+    (λ c. search answers) (λ c. search answers) (λ c. search answers) (λ c κs. search answers) (λ c. search answers) (λ c. search answers)
+    (λ c. search answers) (λ c. search answers) (λ c κs. search answers) (λ c. search answers) (λ c. search answers) (λ c. search answers)
+    (λ c. search answers) (λ c κs. search answers) (λ c. search answers) (λ c. search answers))

@@ -3,7 +3,8 @@ use Rattle.p0_choice.specs.Text.{word}
 use Rattle.p0_choice.proofs.Arms.{arm-among, rest-among}
 use Rattle.p2_input_method.specs.Rules.{markRule, markRules}
 use Rattle.p2_input_method.specs.declared.InputMethod.the-variants.{Telex}
-use Rattle.p3_marks.specs.Mark.{markKeys, isMarkKey}
+use Rattle.p3_marks.specs.Mirror.{isMarkKey}
+use Rattle.p3_marks.specs.Mirror.{markKeys}
 use Rattle.p3_marks.proofs.is_telex_mark_key.Statement.{statement}
 use Rattle.p3_marks.proofs.is_telex_mark_key.Tie as tie
 

@@ -1,6 +1,6 @@
 use borrow.Author.Needs.{needs}
 use Rattle.p0_choice.proofs.Choices.{calls}
-use Rattle.p3_step.specs.Step.{toneFor}
+use Rattle.p3_step.specs.Mirror.{toneFor}
 use Rattle.p3_step.proofs.Steps.{row-some, tone-at}
 use Rattle.p3_step.proofs.tone_place.Statement.{statement}
 use Rattle.p3_step.proofs.tone_place.Tie as tie
@@ -10,4 +10,5 @@ unfolding toneFor
 tone-place-spec =
     tie.close
     (tie.spec
-    (λ c κs. search needs) (λ c. search calls) (λ c κs. search needs) (λ c. search calls) (λ c κs. (row-some _ _ (c .before .any-vowel .ensures) (c .if2 .left), search needs)) (λ c. search tone-at))
+    (λ c κs. search needs) (λ c. search calls) (λ c κs. search needs) (λ c. search calls)
+    (λ c κs. (row-some _ _ (c .before .any-vowel .ensures) (c .if2 .left), search needs)) (λ c. search tone-at))

@@ -9,4 +9,5 @@ pub ua-step-spec : {M : Type 1} → statement M
 ua-step-spec =
     tie.close
     (tie.spec
-    (λ c κs. search answers) (λ c. search answers) (λ c. search answers) (λ c κs. search answers) (λ c. search answers) (λ c. search answers))
+    (λ c κs. search answers) (λ c. search answers) (λ c. search answers) (λ c κs. search answers) (λ c. search answers)
+    (λ c. search answers))

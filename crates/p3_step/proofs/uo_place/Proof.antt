@@ -1,6 +1,6 @@
 use borrow.Author.Needs.{needs}
 use Rattle.p0_choice.proofs.Choices.{calls}
-use Rattle.p3_step.specs.Step.{uoFor}
+use Rattle.p3_step.specs.Mirror.{uoFor}
 use Rattle.p3_step.proofs.uo_place.Statement.{statement}
 use Rattle.p3_step.proofs.uo_place.Tie as tie
 

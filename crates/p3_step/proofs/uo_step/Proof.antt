@@ -9,4 +9,5 @@ pub uo-step-spec : {M : Type 1} → statement M
 uo-step-spec =
     tie.close
     (tie.spec
-    (λ c κs. search answers) (λ c. search answers) (λ c. record { fits = search uo-fits }) (λ c. search answers) (λ c κs. search answers) (λ c. search answers) (λ c. search answers))
+    (λ c κs. search answers) (λ c. search answers) (λ c. record { fits = search uo-fits }) (λ c. search answers) (λ c κs. search answers)
+    (λ c. search answers) (λ c. search answers))

@@ -8,4 +8,5 @@ pub is-plain-spec : {M : Type 1} → statement M
 unfolding word
 is-plain-spec =
     tie.close
-    (tie.spec (λ c. arm-among (word "aeiouy") (word "aeiouy") _ (c .match .keys1) tt) (λ c. rest-among _ (word "aeiouy") (word "aeiouy" ∷ []) _ (c .match .rest) tt))
+    (tie.spec (λ c. arm-among (word "aeiouy") (word "aeiouy") _ (c .match .keys1) tt)
+    (λ c. rest-among _ (word "aeiouy") (word "aeiouy" ∷ []) _ (c .match .rest) tt))

@@ -20,4 +20,5 @@ last-marked-spec =
     tie.close
     (tie.spec
     Inv-loop μ-loop
-    (λ c. search answers) (λ c. search answers) (λ c. search answers) (λ c. search answers) (λ c κs. search answers) (λ c. search answers) (λ c. search answers) (λ c. search answers) (λ c. search answers))
+    (λ c. search answers) (λ c. search answers) (λ c. search answers) (λ c. search answers) (λ c κs. search answers) (λ c. search answers)
+    (λ c. search answers) (λ c. search answers) (λ c. search answers))

@@ -9,4 +9,5 @@ pub to-undo-spec : {M : Type 1} → statement M
 to-undo-spec =
     tie.close
     (tie.spec
-    (λ c. search answers) (λ c. search answers) (λ c. search answers) (λ c κs. search answers) (λ c. search answers) (λ c. search answers) (λ c. search answers) (λ c κs. search answers) (λ c. search answers))
+    (λ c. search answers) (λ c. search answers) (λ c. search answers) (λ c κs. search answers) (λ c. search answers) (λ c. search answers)
+    (λ c. search answers) (λ c κs. search answers) (λ c. search answers))

@@ -9,4 +9,6 @@ pub undo-telex-transform-spec : {M : Type 1} → statement M
 undo-telex-transform-spec =
     tie.close
     (tie.spec
-    (λ c κs. search answers) (λ c κs. search answers) (λ c. search answers) (λ c κs. search answers) (λ c. search answers) (λ c κs. search answers) (λ c κs. search answers) (λ c. search answers) (λ c κs. search answers) (λ c κs. search answers) (λ c. search answers) (λ c κs. search answers) (λ c κs. search answers) (λ c. search answers))
+    (λ c κs. search answers) (λ c κs. search answers) (λ c. search answers) (λ c κs. search answers) (λ c. search answers)
+    (λ c κs. search answers) (λ c κs. search answers) (λ c. search answers) (λ c κs. search answers) (λ c κs. search answers)
+    (λ c. search answers) (λ c κs. search answers) (λ c κs. search answers) (λ c. search answers))

@@ -4,7 +4,7 @@ use mathlib.Core.List.{List, [], _∷_}
 use Rattle.p0_choice.specs.Text.{word, words, wordsFrom}
 use Rattle.p4_rows.specs.Rows.{onsetRows}
 use Rattle.p4_rows.specs.Lookup.{sameWord}
-use Rattle.p4_rows.specs.Keys.{keyOf, keyRows, onsetKeys, rowsOnFrom, rowsOn, spread}
+use Rattle.p4_rows.specs.Mirror.{keyOf, keyRows, onsetKeys, rowsOnFrom, rowsOn, spread}
 use Rattle.p4_rows.proofs.Keys.{keysOf, rows-arm, rows-rest}
 use Rattle.p4_rows.proofs.onset_rows.Statement.{statement}
 use Rattle.p4_rows.proofs.onset_rows.Tie as tie

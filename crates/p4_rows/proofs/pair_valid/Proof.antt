@@ -3,7 +3,7 @@ use Prim.Native.Nat.{_≤_, _-_}
 use mathlib.Core.Path.{_≡_}
 use mathlib.Core.Bool.{false}
 use borrow.Author.Needs.{needs}
-use Rattle.p4_rows.specs.Matrices.{pairsOf}
+use Rattle.p4_rows.specs.Mirror.{pairsOf}
 use Rattle.p4_rows.proofs.Pairs.{RowRest, PairRest, row-on, pair-on, pair-found, pair-none}
 use Rattle.p4_rows.proofs.pair_valid.Statement.{statement}
 use Rattle.p4_rows.proofs.pair_valid.Tie as tie

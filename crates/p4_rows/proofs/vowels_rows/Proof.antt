@@ -4,7 +4,7 @@ use mathlib.Core.List.{List, [], _∷_}
 use Rattle.p0_choice.specs.Text.{word, words, wordsFrom}
 use Rattle.p4_rows.specs.Rows.{vowelRows}
 use Rattle.p4_rows.specs.Lookup.{sameWord}
-use Rattle.p4_rows.specs.Keys.{keyOf, keyRows, vowelKeys, rowsOnFrom, rowsOn, spread}
+use Rattle.p4_rows.specs.Mirror.{keyOf, keyRows, vowelKeys, rowsOnFrom, rowsOn, spread}
 use Rattle.p4_rows.proofs.Keys.{keysOf, rows-arm, rows-rest}
 use Rattle.p4_rows.proofs.vowels_rows.Statement.{statement}
 use Rattle.p4_rows.proofs.vowels_rows.Tie as tie
@@ -33,5 +33,6 @@ vowels-rows-spec =
     (λ c. rows-arm vowelKeys (2 ∷ 6 ∷ []) (keysOf "ă") _ (c .match .keys5) tt)
     (λ c. rows-arm vowelKeys (3 ∷ []) (keysOf "oă") _ (c .match .keys6) tt)
     (λ c. rows-arm vowelKeys (4 ∷ []) (keysOf "uơ") _ (c .match .keys7) tt)
-    (λ c. rows-arm vowelKeys (5 ∷ []) (keysOf "ai ao au ay eo ia iu oi ui âu ây êu ôi ơi ưa ưi ưu iêu oai oao oay oeo uya uyu uây uôi yêu ươi ươu") _ (c .match .keys8) tt)
+    (λ c. rows-arm vowelKeys (5 ∷ [])
+    (keysOf "ai ao au ay eo ia iu oi ui âu ây êu ôi ơi ưa ưi ưu iêu oai oao oay oeo uya uyu uây uôi yêu ươi ươu") _ (c .match .keys8) tt)
     (λ c. rows-rest _ vowelKeys arms _ (c .match .rest) tt))

@@ -19,4 +19,5 @@ pub before-vowel-spec : {M : Type 1} → statement M
 before-vowel-spec =
     tie.close
     (tie.spec Inv-loop μ-loop
-    (λ c. search answers) (λ c. search answers) (λ c. search answers) (λ c κs. search answers) (λ c. search answers) (λ c. search answers) (λ c. search answers) (λ c. search answers) (λ c. search answers))
+    (λ c. search answers) (λ c. search answers) (λ c. search answers) (λ c κs. search answers) (λ c. search answers) (λ c. search answers)
+    (λ c. search answers) (λ c. search answers) (λ c. search answers))

@@ -12,4 +12,5 @@ unfolding codaPart
 coda-part-spec =
     tie.close
     (tie.spec
-    (λ c. search answers) (λ c. search answers) (λ c. search answers) (λ c. search answers) (λ c. search answers) (λ c. search answers) (λ c. search answers) (λ c. search answers) (λ c. search answers))
+    (λ c. search answers) (λ c. search answers) (λ c. search answers) (λ c. search answers) (λ c. search answers) (λ c. search answers)
+    (λ c. search answers) (λ c. search answers) (λ c. search answers))

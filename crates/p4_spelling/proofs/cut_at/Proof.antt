@@ -9,4 +9,5 @@ pub cut-at-spec : {M : Type 1} → statement M
 cut-at-spec =
     tie.close
     (tie.spec
-    (λ c κs. search answers) (λ c. search answers) (λ c. search answers) (λ c. search answers) (λ c. search answers) (λ c κs. search answers) (λ c. search answers) (λ c. search answers))
+    (λ c κs. search answers) (λ c. search answers) (λ c. search answers) (λ c. search answers) (λ c. search answers)
+    (λ c κs. search answers) (λ c. search answers) (λ c. search answers))

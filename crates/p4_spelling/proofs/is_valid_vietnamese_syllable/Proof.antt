@@ -12,4 +12,5 @@ unfolding verdictAnswer permitted
 is-valid-vietnamese-syllable-spec =
     tie.close
     (tie.spec
-    (λ c. search answers) (λ c κs. search answers) (λ c. search says-yes) (λ c κs. search answers) (λ c. search answers) (λ c. search answers))
+    (λ c. search answers) (λ c κs. search answers) (λ c. search says-yes) (λ c κs. search answers) (λ c. search answers)
+    (λ c. search answers))

@@ -20,4 +20,5 @@ pub vowel-run-spec : {M : Type 1} → statement M
 vowel-run-spec =
     tie.close
     (tie.spec Inv-loop μ-loop
-    (λ c. search answers) (λ c. search answers) (λ c. search answers) (λ c κs. search answers) (λ c. search answers) (λ c. search answers) (λ c. search answers) (λ c. search answers) (λ c. search answers))
+    (λ c. search answers) (λ c. search answers) (λ c. search answers) (λ c κs. search answers) (λ c. search answers) (λ c. search answers)
+    (λ c. search answers) (λ c. search answers) (λ c. search answers))

@@ -11,12 +11,14 @@ returns : tie.Need-returns
 returns c = too-long _ _ (search answers) _ _ (search answers) (search answers)
 
 returns-2 : tie.Need-returns-2
-returns-2 c = not-letters _ _ (c .before .all-letters .result) (search answers) (search answers) (search answers) _ _ (search answers) (search answers)
+returns-2 c = not-letters _ _ (c .before .all-letters .result) (search answers) (search answers) (search answers) _ _ (search answers)
+    (search answers)
 
 returns-3 : tie.Need-returns-3
 returns-3 c =
     let u : tie.After-up-to = c .before .before .before .before in
-    follows _ _ (u .before .before .all-letters .result) (search needs) (search needs) (search answers) (u .up-to .result) _ _ (search needs)
+    follows _ _ (u .before .before .all-letters .result) (search needs) (search needs) (search answers) (u .up-to .result) _ _
+    (search needs)
     (c .before .before .word-number .ensures)
 
 pub next-word-spec : {M : Type 1} → statement M

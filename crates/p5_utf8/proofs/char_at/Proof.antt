@@ -9,4 +9,6 @@ pub char-at-spec : {M : Type 1} → statement M
 char-at-spec =
     tie.close
     (tie.spec
-    (λ c. search answers) (λ c. search answers) (λ c. search answers) (λ c. search answers) (λ c. search answers) (λ c κs. search answers) (λ c κs. search answers) (λ c. search answers) (λ c κs. search answers) (λ c κs. search answers) (λ c. search answers) (λ c κs. search answers) (λ c κs. search answers) (λ c. search answers) (λ c. search answers))
+    (λ c. search answers) (λ c. search answers) (λ c. search answers) (λ c. search answers) (λ c. search answers) (λ c κs. search answers)
+    (λ c κs. search answers) (λ c. search answers) (λ c κs. search answers) (λ c κs. search answers) (λ c. search answers)
+    (λ c κs. search answers) (λ c κs. search answers) (λ c. search answers) (λ c. search answers))

@@ -9,4 +9,5 @@ pub is-four-spec : {M : Type 1} → statement M
 is-four-spec =
     tie.close
     (tie.spec
-    (λ c κs. search answers) (λ c. search answers) (λ c κs. search answers) (λ c. search answers) (λ c κs. search answers) (λ c. search answers) (λ c κs. search answers) (λ c. search answers) (λ c κs. search answers) (λ c. search answers))
+    (λ c κs. search answers) (λ c. search answers) (λ c κs. search answers) (λ c. search answers) (λ c κs. search answers)
+    (λ c. search answers) (λ c κs. search answers) (λ c. search answers) (λ c κs. search answers) (λ c. search answers))

@@ -10,6 +10,11 @@ put-spec =
     tie.close
     (tie.spec
     (λ c. search needs) (λ c. search rooms) (λ c. search needs) (λ c. search needs) (λ c. search rows)
-    (λ c. search needs) (λ c. search needs) (λ c. search rooms) (λ c. search needs) (λ c. search needs) (λ c. search needs) (λ c. search rooms) (λ c. search needs) (λ c. search needs) (λ c. search rows)
-    (λ c. search needs) (λ c. search needs) (λ c. search rooms) (λ c. search needs) (λ c. search needs) (λ c. search needs) (λ c. search rooms) (λ c. search needs) (λ c. search needs) (λ c. search needs) (λ c. search rooms) (λ c. search needs) (λ c. search needs) (λ c. search rows)
-    (λ c. search needs) (λ c. omega (arith, scalar-below)) (λ c. search rooms) (λ c. search needs) (λ c. search needs) (λ c. search needs) (λ c. search rooms) (λ c. search needs) (λ c. search needs) (λ c. search needs) (λ c. search rooms) (λ c. search needs) (λ c. search needs) (λ c. search needs) (λ c. search rooms) (λ c. search needs) (λ c. search needs) (λ c. search rows))
+    (λ c. search needs) (λ c. search needs) (λ c. search rooms) (λ c. search needs) (λ c. search needs) (λ c. search needs)
+    (λ c. search rooms) (λ c. search needs) (λ c. search needs) (λ c. search rows)
+    (λ c. search needs) (λ c. search needs) (λ c. search rooms) (λ c. search needs) (λ c. search needs) (λ c. search needs)
+    (λ c. search rooms) (λ c. search needs) (λ c. search needs) (λ c. search needs) (λ c. search rooms) (λ c. search needs)
+    (λ c. search needs) (λ c. search rows)
+    (λ c. search needs) (λ c. omega (arith, scalar-below)) (λ c. search rooms) (λ c. search needs) (λ c. search needs) (λ c. search needs)
+    (λ c. search rooms) (λ c. search needs) (λ c. search needs) (λ c. search needs) (λ c. search rooms) (λ c. search needs)
+    (λ c. search needs) (λ c. search needs) (λ c. search rooms) (λ c. search needs) (λ c. search needs) (λ c. search rows))

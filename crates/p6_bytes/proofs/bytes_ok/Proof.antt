@@ -9,4 +9,6 @@ pub bytes-ok-spec : {M : Type 1} → statement M
 bytes-ok-spec =
     tie.close
     (tie.spec
-    (λ c. search answers) (λ c κs. search answers) (λ c. search answers) (λ c. search answers) (λ c. search answers) (λ c. search answers) (λ c. search answers) (λ c. search answers) (λ c κs. search answers) (λ c. search answers) (λ c κs. search answers) (λ c. search answers) (λ c. search answers) (λ c. search answers) (λ c κs. search answers) (λ c. search answers))
+    (λ c. search answers) (λ c κs. search answers) (λ c. search answers) (λ c. search answers) (λ c. search answers) (λ c. search answers)
+    (λ c. search answers) (λ c. search answers) (λ c κs. search answers) (λ c. search answers) (λ c κs. search answers)
+    (λ c. search answers) (λ c. search answers) (λ c. search answers) (λ c κs. search answers) (λ c. search answers))

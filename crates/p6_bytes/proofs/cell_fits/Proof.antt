@@ -9,4 +9,5 @@ pub cell-fits-spec : {M : Type 1} → statement M
 cell-fits-spec =
     tie.close
     (tie.spec
-    (λ c. search answers) (λ c. search answers) (λ c. search answers) (λ c. search answers) (λ c. search answers) (λ c κs. search answers) (λ c κs. search answers) (λ c. search answers))
+    (λ c. search answers) (λ c. search answers) (λ c. search answers) (λ c. search answers) (λ c. search answers) (λ c κs. search answers)
+    (λ c κs. search answers) (λ c. search answers))

@@ -1,8 +1,8 @@
 use borrow.Author.Needs.{needs}
 use Prim.Native.Nat.{_≤_, _-_}
 use mathlib.Core.Path.{_≡_}
-use Rattle.p0_choice.specs.Choice.{each, count as numbers}
-use Rattle.p6_bytes.specs.Parts.{cellFits, cellsFit}
+use Rattle.p0_choice.specs.Choice.{each, from as numbers}
+use Rattle.p6_bytes.specs.Mirror.{cellFits, cellsFit}
 use Rattle.p6_bytes.proofs.Tests.{fit-start, fit-bad, fit-on, fit-done}
 use Rattle.p6_bytes.proofs.cells_fit.Statement.{statement}
 use Rattle.p6_bytes.proofs.cells_fit.Tie as tie
@@ -19,4 +19,5 @@ pub cells-fit-spec : {M : Type 1} → statement M
 cells-fit-spec =
     tie.close
     (tie.spec
-    Inv-loop μ-loop (λ c. search answers) (λ c κs. search answers) (λ c. search answers) (λ c. search answers) (λ c. search answers) (λ c. search answers) (λ c. search answers))
+    Inv-loop μ-loop (λ c. search answers) (λ c κs. search answers) (λ c. search answers) (λ c. search answers) (λ c. search answers)
+    (λ c. search answers) (λ c. search answers))

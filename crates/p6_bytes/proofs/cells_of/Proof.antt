@@ -23,4 +23,5 @@ cells-of-spec =
     (tie.spec
     Inv-loop μ-loop
     (λ c κs. search needs) (λ c. (search needs, refl, search cells-start))
-    (λ c. search answers) (λ c. search answers) (λ c κs. search answers) (λ c. search answers) (λ c. search answers) (λ c. search answers) (λ c. search answers) (λ c. search answers) (λ c. search answers))
+    (λ c. search answers) (λ c. search answers) (λ c κs. search answers) (λ c. search answers) (λ c. search answers) (λ c. search answers)
+    (λ c. search answers) (λ c. search answers) (λ c. search answers))

@@ -28,7 +28,8 @@ encode-spec =
     ((simp length-set at (c .before .before .before .put-zeros .kept .0)) ∙ z .pre .0, search needs))
     (λ c. let f = fits (c .before .before .before .before .before .before .before .before .before .before .before .before) in search needs)
     (λ c. let f = fits (c .before .before .before .before .before .before .before .before .before .before .before .before) in search needs)
-    (λ c κs. let f = fits (c .before .before .before .before .before .before .before .before .before .before .before .before) in (omega arith, omega (arith, c .before .before .before .put-cells .ensures .0)))
+    (λ c κs. let f = fits (c .before .before .before .before .before .before .before .before .before .before .before .before) in
+    (omega arith, omega (arith, c .before .before .before .put-cells .ensures .0)))
     (λ c. search needs)
     (λ c.
     let z = c .before .before .before .before .before .before .before .before .before .before .before .before .before .before .before in
@@ -36,4 +37,5 @@ encode-spec =
     encoded (z .args .c) (z .pre .1) (z .args .b .now) _ _ _ _ _ (z .pre .0) (cells-all z)
     (c .before .before .before .before .before .before .before .before .before .before .before .before .before .method-byte .ensures)
     (c .before .before .before .before .before .before .before .before .before .before .before .before .mode-byte .ensures)
-    (c .before .before .before .before .before .before .before .before .before .before .put-zeros .ensures) (p .ensures .1) (p .ensures .0) (c .before .before .put-zeros2 .ensures)))
+    (c .before .before .before .before .before .before .before .before .before .before .put-zeros .ensures) (p .ensures .1) (p .ensures .0)
+    (c .before .before .put-zeros2 .ensures)))

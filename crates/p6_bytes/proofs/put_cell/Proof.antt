@@ -11,4 +11,9 @@ pub put-cell-spec : {M : Type 1} → statement M
 put-cell-spec =
     tie.close
     (tie.spec
-    (λ c. search answers) (λ c. search answers) (λ c. search answers) (λ c. search answers) (λ c. simp length-set (omega arith)) (λ c. search answers) (λ c. search answers) (λ c. simp length-set (omega arith)) (λ c. search answers) (λ c. search answers) (λ c. simp length-set (omega arith)) (λ c. search answers) (λ c. search answers) (λ c. simp length-set (omega arith)) (λ c. search answers) (λ c. search answers) (λ c. simp length-set (omega arith)) (λ c. search answers) (λ c. simp length-set (omega arith)) (λ c κs. search answers) (λ c. search answers) (λ c. simp length-set (omega arith)) (λ c. simp length-set) (λ c. search answers))
+    (λ c. search answers) (λ c. search answers) (λ c. search answers) (λ c. search answers) (λ c. simp length-set (omega arith))
+    (λ c. search answers) (λ c. search answers) (λ c. simp length-set (omega arith)) (λ c. search answers) (λ c. search answers)
+    (λ c. simp length-set (omega arith)) (λ c. search answers) (λ c. search answers) (λ c. simp length-set (omega arith))
+    (λ c. search answers) (λ c. search answers) (λ c. simp length-set (omega arith)) (λ c. search answers)
+    (λ c. simp length-set (omega arith)) (λ c κs. search answers) (λ c. search answers) (λ c. simp length-set (omega arith))
+    (λ c. simp length-set) (λ c. search answers))

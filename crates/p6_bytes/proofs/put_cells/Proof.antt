@@ -25,13 +25,15 @@ put-cells-spec =
     tie.close
     (tie.spec
     Inv-loop μ-loop
-    (λ c. search answers) (λ c. search answers) (λ c. search answers) (λ c. search answers) (λ c. search answers) (λ c κs. search answers) (λ c. search answers) (λ c. search answers)
+    (λ c. search answers) (λ c. search answers) (λ c. search answers) (λ c. search answers) (λ c. search answers) (λ c κs. search answers)
+    (λ c. search answers) (λ c. search answers)
     (λ c.
     let l = c .before .before .before .before .before .before .loop in
     let z = c .before .before .before .before .before .before .before .before in
     let p = c .before .before .put-cell in (
       search needs,
       p .kept .0 ∙ l .inv .1,
-      put-on (z .args .t1 .cells) (z .args .b .now) (l .b) (l .i) (z .args .t1 .count) (l .inv .2) _ _ (z .pre .0) (cells-all z) (c .before .before .before .before .before .loop-test .taken) (z .pre .1) refl (p .ensures),
+      put-on (z .args .t1 .cells) (z .args .b .now) (l .b) (l .i) (z .args .t1 .count) (l .inv .2) _ _ (z .pre .0) (cells-all z)
+          (c .before .before .before .before .before .loop-test .taken) (z .pre .1) refl (p .ensures),
     ))
     (λ c. search answers) (λ c. search answers))

@@ -20,4 +20,5 @@ pub put-zeros-spec : {M : Type 1} → statement M
 put-zeros-spec =
     tie.close
     (tie.spec
-    Inv-loop μ-loop (λ c. search answers) (λ c. search answers) (λ c. search answers) (λ c. search answers) (λ c. search answers) (λ c. search answers) (λ c. search answers))
+    Inv-loop μ-loop (λ c. search answers) (λ c. search answers) (λ c. search answers) (λ c. search answers) (λ c. search answers)
+    (λ c. search answers) (λ c. search answers))

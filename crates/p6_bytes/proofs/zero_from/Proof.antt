@@ -4,9 +4,9 @@ use mathlib.Core.Path.{_≡_, refl}
 use mathlib.Core.Bool.{false}
 use lib.Dec.{eqb}
 use lib.ListN.{length}
-use Rattle.p0_choice.specs.Choice.{pick, each, count as numbers}
+use Rattle.p0_choice.specs.Choice.{pick, each, from as numbers}
 use Rattle.p6_bytes.specs.Bytes.{isZero}
-use Rattle.p6_bytes.specs.Parts.{zeroFrom}
+use Rattle.p6_bytes.specs.Mirror.{zeroFrom}
 use Rattle.p6_bytes.proofs.Tests.{zero-start, zero-on, zero-done}
 use Rattle.p6_bytes.proofs.zero_from.Statement.{statement}
 use Rattle.p6_bytes.proofs.zero_from.Tie as tie
@@ -23,4 +23,5 @@ pub zero-from-spec : {M : Type 1} → statement M
 zero-from-spec =
     tie.close
     (tie.spec
-    Inv-loop μ-loop (λ c. search answers) (λ c. search answers) (λ c κs. search answers) (λ c. search answers) (λ c. search answers) (λ c. search answers) (λ c. search answers))
+    Inv-loop μ-loop (λ c. search answers) (λ c. search answers) (λ c κs. search answers) (λ c. search answers) (λ c. search answers)
+    (λ c. search answers) (λ c. search answers))

@@ -1,6 +1,6 @@
 use borrow.Author.Needs.{needs}
 use mathlib.Core.Path.{sym}
-use Rattle.p6_composition.proofs.Steps.{after-done, after-refused}
+use Rattle.p6_composition.proofs.UndoAnswer.{after-done, after-refused}
 use Rattle.p6_composition.proofs.finish.Statement.{statement}
 use Rattle.p6_composition.proofs.finish.Tie as tie
 

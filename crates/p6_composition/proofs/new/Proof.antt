@@ -9,4 +9,5 @@ pub new-spec : {M : Type 1} → statement M
 new-spec =
     tie.close
     (tie.spec
-    (λ c. search answers) (λ c. search answers) (λ c κs. search answers) (λ c κs. search answers) (λ c κs. search answers) (λ c. search answers) (λ c. search answers))
+    (λ c. search answers) (λ c. search answers) (λ c κs. search answers) (λ c κs. search answers) (λ c κs. search answers)
+    (λ c. search answers) (λ c. search answers))

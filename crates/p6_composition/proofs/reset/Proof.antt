@@ -1,5 +1,6 @@
 use borrow.Author.Needs.{needs}
-use Rattle.p6_composition.proofs.Calls.{ok-sound, ok-size, unsound-answer, unsound-bytes, reset-is, reset-ready, sound-answer, sound-bytes}
+use Rattle.p6_composition.proofs.Calls.{ok-sound, ok-size, unsound-answer, unsound-bytes, reset-is, reset-ready, sound-answer}
+use Rattle.p6_composition.proofs.Calls.{sound-bytes}
 use Rattle.p6_composition.proofs.reset.Statement.{statement}
 use Rattle.p6_composition.proofs.reset.Tie as tie
 
@@ -9,4 +10,5 @@ pub reset-spec : {M : Type 1} → statement M
 reset-spec =
     tie.close
     (tie.spec
-    (λ c κs. search answers) (λ c. search answers) (λ c. search answers) (λ c κs. search answers) (λ c κs. search answers) (λ c κs. search answers) (λ c. search answers) (λ c. search answers))
+    (λ c κs. search answers) (λ c. search answers) (λ c. search answers) (λ c κs. search answers) (λ c κs. search answers)
+    (λ c κs. search answers) (λ c. search answers) (λ c. search answers))

@@ -6,9 +6,11 @@ use mathlib.Core.List.{_++_, append-nil}
 use Prim.Native.Nat.{_≤_, _*_, _-_}
 use lib.ListN.{length, length-set, take, drop, drop-of-length-le}
 use lib.Seq.{length-take-le}
-use Rattle.p7_line.specs.Line.{most, lineRoom}
-use Rattle.p7_feed.specs.Run.{state, outRoom, endOut, runTo, runOut, fed, lineAfter}
-use Rattle.p7_feed.proofs.Parts.{to-end, out-end, to-held, out-held, to-dropped, out-dropped, lay-end, lay-held, lay-dropped, lay-done, past-end, printed}
+use Rattle.p7_line.specs.Line.{most}
+use Rattle.p7_line.specs.Mirror.{lineRoom}
+use Rattle.p7_feed.specs.Mirror.{state, outRoom, endOut, runTo, runOut, fed, lineAfter}
+use Rattle.p7_feed.proofs.Parts.{to-end, out-end, to-held, out-held, to-dropped, out-dropped, lay-end, lay-held, lay-dropped}
+use Rattle.p7_feed.proofs.Parts.{line-laid, past-end, printed}
 use Rattle.p7_feed.proofs.feed.Statement.{statement}
 use Rattle.p7_feed.proofs.feed.Tie as tie
 
@@ -46,7 +48,8 @@ loop-again c =
       search needs,
       omega (arith, out .end-out .ensures .1),
       to-end _ (take (l .len) (l .line)) (l .phase) part (l .i) h _ refl (l .inv .5) q _ f,
-      out-end _ (take (l .len) (l .line)) (l .phase) part (l .i) h _ refl (l .inv .5) q _ f (l .out) _ (l .n) _ (omega arith) e w (l .inv .6),
+      out-end _ (take (l .len) (l .line)) (l .phase) part (l .i) h _ refl (l .inv .5) q _ f (l .out) _ (l .n) _ (omega arith) e w
+          (l .inv .6),
       lay-end _ _ _ part (l .i) h _ refl (l .inv .7) q,
       past-end (l .out) _ _ (endOut (l .phase) (take (l .len) (l .line))) (l .n) _ (omega arith) e w (l .inv .8),
     )
@@ -63,7 +66,8 @@ loop-again-2 c =
       search needs,
       search needs,
       to-held _ (l .line) (l .len) (l .phase) part (l .i) _ (l .inv .1) h refl q (c .if2 .taken) (l .inv .5),
-      out-held _ (l .line) (l .len) (l .phase) part (l .i) _ (l .inv .1) h refl q (take (l .n) (l .out)) (c .if2 .taken) (l .inv .5) (l .inv .6),
+      out-held _ (l .line) (l .len) (l .phase) part (l .i) _ (l .inv .1) h refl q (take (l .n) (l .out)) (c .if2 .taken) (l .inv .5)
+          (l .inv .6),
       lay-held _ (l .line) (l .len) part (l .i) h _ refl (l .inv .7) q (c .if2 .taken),
       l .inv .8,
     )
@@ -80,7 +84,8 @@ loop-again-3 c =
       l .inv .3,
       search needs,
       to-dropped _ (l .line) (l .len) (l .phase) part (l .i) _ (l .inv .1) h refl q (c .if2 .left) (l .inv .3) (l .inv .5),
-      out-dropped _ (l .line) (l .len) (l .phase) part (l .i) _ (l .inv .1) h refl q (take (l .n) (l .out)) (c .if2 .left) (l .inv .3) (l .inv .5) (l .inv .6),
+      out-dropped _ (l .line) (l .len) (l .phase) part (l .i) _ (l .inv .1) h refl q (take (l .n) (l .out)) (c .if2 .left) (l .inv .3)
+          (l .inv .5) (l .inv .6),
       lay-dropped _ (l .line) (l .len) part (l .i) h _ refl (l .inv .7) q (c .if2 .left),
       l .inv .8,
     )
@@ -94,13 +99,16 @@ returns c =
     let d = drop-of-length-le part k in
     let to : runTo _ part ≡ state (take (l .len) (l .line)) (l .phase) = l .inv .5 ∙ rw d refl in
     let out = printed (l .out) _ _ (l .n) (omega arith) (l .inv .6 ∙ rw d (append-nil (take (l .n) (l .out)))) (l .inv .8) in
-    let len = length-take-le (l .len) (l .line) (omega arith) in
-    ((rw (to, len, ← out .0) refl, search needs, search needs), ((sym to, lay-done _ (l .line) (l .len) part (l .i) k (l .inv .7)), out .1))
+    let len = length-take-le (l .len) (l .line) (omega arith) in (
+      (rw (to, len, ← out .0) refl, search needs, search needs),
+      ((sym to, line-laid _ (l .line) (l .len) part (l .i) k (l .inv .7)), out .1),
+    )
 
 pub feed-spec : {M : Type 1} → statement M
 feed-spec =
     tie.close
     (tie.spec Inv-loop μ-loop
-    loop-holds (λ c. search needs) (λ c. search needs) (λ c κs. search needs) (λ c κs. search needs) (λ c κs. search needs) (λ c κs. search needs)
+    loop-holds (λ c. search needs) (λ c. search needs) (λ c κs. search needs) (λ c κs. search needs) (λ c κs. search needs)
+    (λ c κs. search needs)
     (λ c. search needs) loop-again (λ c. search needs) (λ c. search needs) (λ c. search needs) loop-again-2 (λ c. search needs) loop-again-3
     (λ c. search needs) (λ c. search needs) returns)

@@ -3,13 +3,14 @@ use borrow.Author.Needs.{needs}
 use mathlib.Core.Path.{_≡_, refl}
 use Prim.Native.Nat.{_≤_, _-_}
 use lib.ListN.{length}
+use Rattle.p3_cells.specs.Cells.{limit}
 use Rattle.p7_line.proofs.Typing.{Typing, typing-first, typing-on, line-refused, line-typed, text-fits}
 use Rattle.p7_line.proofs.keys_line.Statement.{statement}
 use Rattle.p7_line.proofs.keys_line.Tie as tie
 
 abbrev Inv-loop : tie.InvT-loop
 Inv-loop keys out₀ at c₀ text₀ count₀ i₀ out c text count i =
-    (i ≤ length keys) × (length text ≡ 32) × (length out ≡ length out₀) × (out ≡ out₀) × Typing (c₀ .method) keys c text count i
+    (i ≤ length keys) × (length text ≡ limit) × (length out ≡ length out₀) × (out ≡ out₀) × Typing (c₀ .method) keys c text count i
 
 abbrev μ-loop : tie.MeasureT-loop
 μ-loop keys out₀ at c₀ text₀ count₀ i₀ out c text count i = length keys - i
@@ -33,7 +34,8 @@ returns c =
     let start = new .before .before .before in
     let l = loop .loop in
     let k = key .process-sound-key in
-    let q = line-refused (start .args .m) (start .args .keys .now) (new .new .result) (new .new .ensures) (l .c) (l .text) (l .count) (l .i) (l .inv .4) (start .pre .0) (turn .loop-test .taken) (l .inv .1)
+    let q = line-refused (start .args .m) (start .args .keys .now) (new .new .result) (new .new .ensures) (l .c) (l .text) (l .count) (l .i)
+    (l .inv .4) (start .pre .0) (turn .loop-test .taken) (l .inv .1)
     _ refl (k .result) _ (k .ensures .0) (told .given .given .1) in
     (rw q (put .put-refused .ensures .0), put .put-refused .ensures .1, rw (q, ← l .inv .3) (put .put-refused .ensures .2))
 
@@ -51,7 +53,8 @@ loop-again c =
       search needs,
       l .inv .2,
       l .inv .3,
-      typing-on (new .new .result .method) (start .args .keys .now) (l .c) (l .text) (l .count) (l .i) (l .inv .4) (start .pre .0) (turn .loop-test .taken) (l .inv .1)
+      typing-on (new .new .result .method) (start .args .keys .now) (l .c) (l .text) (l .count) (l .i) (l .inv .4) (start .pre .0)
+          (turn .loop-test .taken) (l .inv .1)
           _ refl (k .result) _ _ (k .ensures .0) (told .given2 .given .1) (k .ensures .1),
     )
 
@@ -61,7 +64,8 @@ text-requires c κs =
     let new = loop .before in
     let start = new .before .before .before in
     let l = loop .loop in
-    let f = text-fits (start .args .m) (start .args .keys .now) (new .new .result) (new .new .ensures) (l .c) (l .text) (l .count) (l .i) (l .inv .4) in
+    let f = text-fits (start .args .m) (start .args .keys .now) (new .new .result) (new .new .ensures) (l .c) (l .text) (l .count) (l .i)
+    (l .inv .4) in
     (rw (c .before .first .ensures) (f .0), rw (c .before .first .ensures) (f .1), search needs)
 
 returns-2 : tie.Need-returns-2 Inv-loop μ-loop
@@ -74,7 +78,8 @@ returns-2 c =
     let start = new .before .before .before in
     let l = loop .loop in
     let t = line .text-line in
-    let q = line-typed (start .args .m) (start .args .keys .now) (new .new .result) (new .new .ensures) (l .c) (l .text) (l .count) (l .i) (l .inv .4) (turn .loop-test .left) in
+    let q = line-typed (start .args .m) (start .args .keys .now) (new .new .result) (new .new .ensures) (l .c) (l .text) (l .count) (l .i)
+    (l .inv .4) (turn .loop-test .left) in
     (rw (q, ← first .first .ensures) (t .ensures .0), t .ensures .1, rw (q, ← first .first .ensures, ← l .inv .3) (t .ensures .2))
 
 pub keys-line-spec : {M : Type 1} → statement M

@@ -9,4 +9,5 @@ pub method-line-spec : {M : Type 1} → statement M
 method-line-spec =
     tie.close
     (tie.spec
-    (λ c. search answers) (λ c κs. search answers) (λ c. search answers) (λ c. search answers) (λ c. search answers) (λ c κs. search answers) (λ c κs. search answers) (λ c. search answers) (λ c. search answers))
+    (λ c. search answers) (λ c κs. search answers) (λ c. search answers) (λ c. search answers) (λ c. search answers)
+    (λ c κs. search answers) (λ c κs. search answers) (λ c. search answers) (λ c. search answers))

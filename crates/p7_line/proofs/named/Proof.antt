@@ -12,4 +12,5 @@ unfolding methodNamed word
 named-spec =
     tie.close
     (tie.spec
-    (λ c. search answers) (λ c κs. search answers) (λ c. search answers) (λ c. search answers) (λ c κs. search answers) (λ c. search answers) (λ c. search answers))
+    (λ c. search answers) (λ c κs. search answers) (λ c. search answers) (λ c. search answers) (λ c κs. search answers)
+    (λ c. search answers) (λ c. search answers))

@@ -9,4 +9,6 @@ pub put-text-spec : {M : Type 1} → statement M
 put-text-spec =
     tie.close
     (tie.spec
-    (λ c. search answers) (λ c κs. search answers) (λ c. search answers) (λ c. search answers) (λ c. search answers) (λ c κs. search answers) (λ c κs. search (text-room, needs)) (λ c. let f : ⊥ = search (text-never, needs) in absurd f) (λ c. search answers) (λ c. (search (text-end, needs), search (text-next, needs), search (text-out, needs))))
+    (λ c. search answers) (λ c κs. search answers) (λ c. search answers) (λ c. search answers) (λ c. search answers)
+    (λ c κs. search answers) (λ c κs. search (text-room, needs)) (λ c. let f : ⊥ = search (text-never, needs) in absurd f)
+    (λ c. search answers) (λ c. (search (text-end, needs), search (text-next, needs), search (text-out, needs))))

@@ -12,4 +12,6 @@ unfolding word
 text-line-spec =
     tie.close
     (tie.spec
-    (λ c κs. search answers) (λ c κs. search answers) (λ c. search answers) (λ c κs. search answers) (λ c. search answers) (λ c. (search (line-end, needs, refl), search needs, search (line-out, needs, refl))) (λ c. search answers) (λ c κs. search answers) (λ c. search answers) (λ c. (search (line-end, needs, refl), search needs, search (line-out, needs, refl))))
+    (λ c κs. search answers) (λ c κs. search answers) (λ c. search answers) (λ c κs. search answers) (λ c. search answers)
+    (λ c. (search (line-end, needs, refl), search needs, search (line-out, needs, refl))) (λ c. search answers) (λ c κs. search answers)
+    (λ c. search answers) (λ c. (search (line-end, needs, refl), search needs, search (line-out, needs, refl))))

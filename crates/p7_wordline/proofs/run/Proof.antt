@@ -4,15 +4,16 @@ use mathlib.Core.Bool.{false}
 use Prim.Native.Nat.{_≤_}
 use lib.ListN.{length}
 use Rattle.p7_line.specs.Line.{most}
-use Rattle.p7_feed.specs.Run.{partMost, outRoom}
-use Rattle.p7_wordline.specs.Turns.{isOver, Came}
+use Rattle.p7_feed.specs.Mirror.{partMost, outRoom}
+use Rattle.p7_wordline.specs.Mirror.{isOver, Came}
 use Rattle.p7_wordline.proofs.Turns.{ends, goes, unread, not-over, came-none, came-more}
 use Rattle.p7_wordline.proofs.run.Statement.{statement}
 use Rattle.p7_wordline.proofs.run.Tie as tie
 
 abbrev Inv-loop : tie.InvT-loop
 Inv-loop line₀ carry₀ part₀ out₀ turns₀ line carry part out turns =
-    (length line ≡ most) × (length part ≡ partMost) × (length out ≡ outRoom) × (carry .len ≤ most) × (isOver (carry .phase) ≡ false) × Came line carry
+    (length line ≡ most) × (length part ≡ partMost) × (length out ≡ outRoom) × (carry .len ≤ most) × (isOver (carry .phase) ≡ false)
+    × Came line carry
 
 abbrev μ-loop : tie.MeasureT-loop
 μ-loop line₀ carry₀ part₀ out₀ turns₀ line carry part out turns = turns

@@ -15,5 +15,6 @@ pub turn-spec : {M : Type 1} → statement M
 turn-spec =
     tie.close
     (tie.spec
-    (λ c κs. search answers) (λ c κs. search answers) (λ c κs. search answers) (λ c κs. search answers) (λ c κs. search answers) feed-requires
+    (λ c κs. search answers) (λ c κs. search answers) (λ c κs. search answers) (λ c κs. search answers)
+    (λ c κs. search answers) feed-requires
     (λ c κs. search answers) (λ c κs. search answers) (λ c. search answers) (λ c. search answers) (λ c. search answers) returns)

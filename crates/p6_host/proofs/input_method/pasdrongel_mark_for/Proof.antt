@@ -9,4 +9,5 @@ pub pasdrongel-mark-for-spec : {M : Type 1} → statement M
 pasdrongel-mark-for-spec =
     tie.close
     (tie.spec
-    (λ c κs. search answers) (λ c. search answers) (λ c κs. search answers) (λ c κs. search answers) (λ c κs. search answers) (λ c. search answers) (λ c κs. search answers) (λ c. search answers) (λ c κs. search answers) (λ c. search answers))
+    (λ c κs. search answers) (λ c. search answers) (λ c κs. search answers) (λ c κs. search answers) (λ c κs. search answers)
+    (λ c. search answers) (λ c κs. search answers) (λ c. search answers) (λ c κs. search answers) (λ c. search answers))

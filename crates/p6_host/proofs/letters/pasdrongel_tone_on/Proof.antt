@@ -12,4 +12,5 @@ unfolding toneCode toneOut
 pasdrongel-tone-on-spec =
     tie.close
     (tie.spec
-    (λ c κs. search answers) (λ c κs. search answers) (λ c κs. search answers) (λ c. (search toned-code, search toned-out)) (λ c κs. search answers) (λ c. search answers))
+    (λ c κs. search answers) (λ c κs. search answers) (λ c κs. search answers) (λ c. (search toned-code, search toned-out))
+    (λ c κs. search answers) (λ c. search answers))

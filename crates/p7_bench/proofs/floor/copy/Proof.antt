@@ -17,4 +17,5 @@ pub copy-spec : {M : Type 1} → statement M
 copy-spec =
     tie.close
     (tie.spec Inv-loop μ-loop
-    (λ c. search copies) (λ c. search copies) (λ c. search copies) (λ c. search copies) (λ c. search copies) (λ c. search copies) (λ c. search copies) (λ c. search copies) (λ c. search copies) (λ c. search copies) (λ c. search copies))
+    (λ c. search copies) (λ c. search copies) (λ c. search copies) (λ c. search copies) (λ c. search copies) (λ c. search copies)
+    (λ c. search copies) (λ c. search copies) (λ c. search copies) (λ c. search copies) (λ c. search copies))

@@ -17,4 +17,6 @@ pub pasdrongel-bench-floor-spec : {M : Type 1} → statement M
 pasdrongel-bench-floor-spec =
     tie.close
     (tie.spec Inv-loop μ-loop
-    (λ c. search lays) (λ c. search lays) (λ c. search lays) (λ c. search lays) (λ c. search lays) (λ c. search lays) (λ c κs. search lays) (λ c. search lays) (λ c. search lays) (λ c. search lays) (λ c. search lays) (λ c κs. search lays) (λ c. search lays) (λ c. search lays) (λ c. search lays) (λ c. (search lays, search lays)))
+    (λ c. search lays) (λ c. search lays) (λ c. search lays) (λ c. search lays) (λ c. search lays) (λ c. search lays) (λ c κs. search lays)
+    (λ c. search lays) (λ c. search lays) (λ c. search lays) (λ c. search lays) (λ c κs. search lays) (λ c. search lays) (λ c. search lays)
+    (λ c. search lays) (λ c. (search lays, search lays)))

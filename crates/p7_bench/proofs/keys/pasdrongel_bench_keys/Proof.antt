@@ -17,4 +17,6 @@ pub pasdrongel-bench-keys-spec : {M : Type 1} → statement M
 pasdrongel-bench-keys-spec =
     tie.close
     (tie.spec Inv-loop μ-loop
-    (λ c κs. search typed) (λ c. search typed) (λ c. search typed) (λ c. search typed) (λ c. search typed) (λ c κs. search typed) (λ c. search typed) (λ c. search typed) (λ c κs. search typed) (λ c κs. search typed) (λ c. search typed) (λ c. search typed) (λ c. search typed) (λ c. search typed) (λ c. (search typed, search typed)))
+    (λ c κs. search typed) (λ c. search typed) (λ c. search typed) (λ c. search typed) (λ c. search typed) (λ c κs. search typed)
+    (λ c. search typed) (λ c. search typed) (λ c κs. search typed) (λ c κs. search typed) (λ c. search typed) (λ c. search typed)
+    (λ c. search typed) (λ c. search typed) (λ c. (search typed, search typed)))

@@ -1,0 +1,60 @@
+-- How the code holds things: no sentence of document 01 stands here, and no promise to a host leads here.
+-- How the code holds what a key does: the step, or nothing where it is refused, with how many letters are written and the
+-- answer. That this is document 01's answer is proved (proofs/Right).
+use Prim.Native.Nat.{ℕ}
+use mathlib.Core.Bool.{Bool, true, false}
+use mathlib.Core.List.{List}
+use lib.Dec.{ltb, eqb}
+use Rattle.p0_choice.specs.Choice.{pick}
+use Rattle.p0_refusals.specs.declared.Refusal.{Refusal}
+use Rattle.p0_refusals.specs.declared.Refusal.the-variants.{Foreign, Full, Short, Unsound}
+use Rattle.p1_letters.specs.Alphabet.{inAlphabet, asciiLower}
+use Rattle.p2_input_method.specs.declared.InputMethod.{InputMethod}
+use Rattle.p3_cells.specs.Cells.{limit}
+use Rattle.p3_cells.specs.Text.{shown}
+use Rattle.p3_cells.specs.declared.Cell.{Cell}
+use Rattle.p3_cells.specs.declared.Mode.{Mode}
+use Rattle.p0_refusals.specs.declared.Answer.the-variants.{Done, Refused}
+use Rattle.p3_step.specs.Mirror.{stepOf}
+use Rattle.p3_step.specs.declared.Change.the-variants.{Nothing}
+use Rattle.p3_step.specs.declared.Step.{Step}
+use Rattle.p3_key.specs.Process.{inMode}
+use Rattle.p3_key.specs.declared.Stroke.{Stroke}
+
+-- the test of soundness by the sum of its faults, where it is not trusted
+unfoldable pub soundBy : Bool → ℕ → ℕ → Bool
+soundBy trusted n faults = pick trusted true (pick (ltb limit n) false (eqb faults 0))
+
+-- the letter that is written for a cell
+unfoldable pub letterFor : Mode → ℕ → Cell → ℕ
+letterFor o key z = inMode o (shown z) key
+
+-- ---- the step with the refusals; n cells are used, and the output has room letters
+abbrev pub noStroke : Refusal → ℕ → Stroke
+noStroke r n = record { change = Nothing; at = 0; also = 0; mark = 0; count = n; letters = 0; answer = Refused r }
+
+unfoldable pub stepStroke : Step → ℕ → ℕ → Stroke
+stepStroke s n room =
+    pick (ltb limit (s .count)) (noStroke Full n)
+    (pick (ltb room (s .count)) (noStroke Short n)
+    (record {
+      change = s .change;
+      at = s .at;
+      also = s .also;
+      mark = s .mark;
+      count = s .count;
+      letters = s .count;
+      answer = Done
+          (s .count);
+    }))
+
+unfoldable pub passStroke : ℕ → ℕ → Stroke
+passStroke n room =
+    pick (ltb room 1) (noStroke Short n)
+    (record { change = Nothing; at = 0; also = 0; mark = 0; count = n; letters = 1; answer = Done 1 })
+
+unfoldable pub strokeOf : Bool → InputMethod → Mode → List Cell → ℕ → ℕ → ℕ → Stroke
+strokeOf sound m o cs key n room =
+    pick sound (pick (inAlphabet key) (inMode o (stepStroke (stepOf m cs (asciiLower key)) n room) (passStroke n room))
+    (noStroke Foreign n))
+    (noStroke Unsound n)

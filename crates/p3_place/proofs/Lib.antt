@@ -1,9 +1,0 @@
-pub mod Vowels
-pub mod Syllable
-pub mod LastSyllable
-pub mod Pairs
-pub mod Places
-pub mod TonePlace
-pub mod Same
-pub mod Bound
-pub mod Placed

@@ -1,0 +1,2 @@
+pub mod TonePlace
+pub mod Mirror

@@ -1,0 +1,11 @@
+pub mod Alphabet
+pub mod Measuring
+pub mod Laying
+pub mod Writing
+pub mod Only
+pub mod Letters
+pub mod Exact
+pub mod FirstByte
+pub mod Surveying
+pub mod Spreading
+pub mod Reading

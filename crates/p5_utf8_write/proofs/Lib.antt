@@ -1,4 +1,0 @@
-pub mod Alphabet
-pub mod Measuring
-pub mod Laying
-pub mod Writing
