@@ -50,6 +50,8 @@ pub const FIGURES: &[Figure] = &[
         ours: key_inner_space, rust: engine!(key_space), floor: Some(floor_space) },
     Figure { name: "call-space", what: "C call on bytes, reset at each space", unit: "key",
         ours: call_space, rust: engine!(key_space), floor: Some(floor_space) },
+    Figure { name: "call-line", what: "C call on bytes, reset at each line's end", unit: "key",
+        ours: call_line, rust: engine!(key_line), floor: Some(floor_line) },
     Figure { name: "verdict", what: "verdict", unit: "word",
         ours: verdict, rust: engine!(verdict), floor: None },
     Figure { name: "cut", what: "cut", unit: "word",
@@ -91,6 +93,10 @@ fn key_inner_space(note: &mut Note) -> usize {
 
 fn call_space(note: &mut Note) -> usize {
     typed(&note.space, calls::host_keys)
+}
+
+fn call_line(note: &mut Note) -> usize {
+    typed(&note.line, calls::host_keys)
 }
 
 fn floor_space(note: &mut Note) -> usize {

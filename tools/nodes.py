@@ -1,15 +1,16 @@
 #!/usr/bin/env python3
-"""The accepted words as a table of shared nodes, written where the lister's definitions and code have it.
+"""The accepted words as a table of nodes side by side, written where the lister's definitions, code and proof have it.
 
-  tools/nodes.py            writes the two files
+  tools/nodes.py            writes the files
   tools/nodes.py --check    says whether they are what it would write (exit 1 if not)
   tools/nodes.py --words    prints the words, one a line
   tools/nodes.py --bytes    prints what the table takes
 
 The words come from the rows, the matrices and document 01's rules alone: every onset, vowels and coda of
 crates/p4_rows/specs/Rows.antt are joined, and the verdict keeps those that it accepts. A node is a letter, whether a
-word ends there, the first node below it and the next node beside it; equal nodes are one, and both point to lower
-numbers. Node 0 is none; the last node is the root."""
+word ends there, how many words go through it, the first node below it, and whether it is the last of its row; the one beside
+it is the next. Equal rows are one, and each stands after all that lead to it, so every step goes to a higher number. The
+number after the last node is none; the first node is the root."""
 import pathlib, re, sys
 
 HOME = pathlib.Path(__file__).resolve().parent.parent
@@ -67,112 +68,210 @@ def words():
     return sorted({o + v + c for o in onsets for v in nuclei for c in codas if verdict(o + v + c)})
 
 
-def shared_nodes(listed):
-    nodes, number = [(0, 0, 0, 0)], {}
+LETTER, DOWN, WORDS, END = 2**21, 2**12, 2**2, 2  # what the parts of an entry are multiplied by; 1 says the last of a row
 
-    def build(part):
-        groups = []
-        for word in part:
-            if groups and groups[-1][0] == word[0]:
-                groups[-1][1].append(word[1:])
-            else:
-                groups.append((word[0], [word[1:]]))
-        beside = 0
-        for letter, rest in reversed(groups):
-            one = (ord(letter), int(rest[0] == ""), build([r for r in rest if r]), beside)
-            if one not in number:
-                number[one] = len(nodes)
-                nodes.append(one)
-            beside = number[one]
-        return beside
 
-    build(listed)
-    sizes = [0]
-    for _, stop, down, beside in nodes[1:]:
-        sizes.append(stop + sizes[down] + sizes[beside])
-    return nodes, [stop + sizes[down] for _, stop, down, _ in nodes]
+def trie(listed):
+    """The row of the letters that the words begin with: letter, whether a word ends there, the row below."""
+    groups = []
+    for word in listed:
+        if groups and groups[-1][0] == word[0]:
+            groups[-1][1].append(word[1:])
+        else:
+            groups.append((word[0], [word[1:]]))
+    return tuple((ord(letter), int(rest[0] == ""), trie([r for r in rest if r])) for letter, rest in groups)
+
+
+def rows_in_order(root):
+    """Each row once, after all that lead to it."""
+    done, found = set(), []
+
+    def visit(row):
+        if row and row not in done:
+            done.add(row)
+            for _, _, below in reversed(row):
+                visit(below)
+            found.append(row)
+
+    visit(root)
+    return found[::-1]
+
+
+def size(row):
+    return sum(ends + size(below) for _, ends, below in row)
+
+
+def entries(listed):
+    rows, first, count = rows_in_order(trie(listed)), {}, 0
+    for row in rows:
+        first[row] = count
+        count += len(row)
+    first[()] = count
+    found = []
+    for row in rows:
+        for letter, ends, below in row:
+            through, last = ends + size(below), int((letter, ends, below) == row[-1])
+            assert letter < 2**32 // LETTER and first[below] < LETTER // DOWN and through < DOWN // WORDS and first[below] > len(found)
+            found.append(letter * LETTER + first[below] * DOWN + through * WORDS + ends * END + last)
+    return found
 
 
 def lines(numbers, each, per):
     return "\n".join("    " + " ".join(each.format(n) for n in numbers[i : i + per]) for i in range(0, len(numbers), per))
 
 
-def definitions(tables):
-    count = len(tables[0][2])
-    text = f"""-- How the code holds things: no sentence of document 01 stands here, and no promise to a host leads here.
--- The listed words as {count - 1} shared nodes: 0 is no node, and a node's down and next are lower numbers. Written by
--- tools/nodes.py from the rows; nothing is believed of these numbers: proofs/Numbering shows that the words are the accepted ones.
-use Prim.Native.Nat.{{ℕ, zero, suc, _-_}}
+def definitions(numbers):
+    return f"""-- How the code holds things: no sentence of document 01 stands here, and no promise to a host leads here.
+-- The listed words as {len(numbers)} nodes. Written by tools/nodes.py from the rows; nothing is believed of these numbers:
+-- proofs/Numbering shows that the words are the accepted ones.
+use Prim.Native.Nat.{{ℕ, suc, _/_, _%_}}
+use mathlib.Core.Bool.{{true, false}}
 use mathlib.Core.List.{{List, [], _∷_}}
 use lib.Dec.{{eqb}}
 use lib.ListN.{{getD}}
-use Rattle.p5_trie.specs.Mirror.{{Trie, none, node}}
+use Rattle.p5_trie.specs.Mirror.{{Trie, Node, Table, trieAt}}
 
--- how many nodes there are, node 0 among them; the last is the root
+-- how many nodes there are; as a node's number, none
 abbrev pub nodeCount : ℕ
-nodeCount = {count}
+nodeCount = {len(numbers)}
 
 abbrev pub rootNode : ℕ
-rootNode = nodeCount - 1
-"""
-    for name, say, numbers, _ in tables:
-        text += f"\n-- {say}\nunfoldable pub {name} : List ℕ\n{name} =\n" + lines(numbers, "{} ∷", 20) + "\n    []\n"
-    return text + f"""
--- the trie of node e, k levels of it
-unfoldable pub grow : ℕ → ℕ → Trie
-grow zero e = none
-grow (suc k) zero = none
-grow (suc k) (suc e) =
-    node (getD nodeLetters (suc e) 0) (eqb (getD nodeStops (suc e) 0) 1) (grow k (getD nodeDowns (suc e) 0))
-    (grow k (getD nodeNexts (suc e) 0))
+rootNode = 0
 
--- the trie of node e
-unfoldable pub trieAt : ℕ → Trie
-trieAt e = grow nodeCount e
+-- each node as one number, its entry
+unfoldable pub entries : List ℕ
+entries =
+{lines(numbers, "{} ∷", 10)}
+    []
+
+unfoldable pub entryAt : ℕ → ℕ
+entryAt e = getD entries e 0
+
+-- the parts of an entry
+abbrev pub letterIn : ℕ → ℕ
+letterIn t = t / {LETTER}
+
+abbrev pub downIn : ℕ → ℕ
+downIn t = t / {DOWN} % {LETTER // DOWN}
+
+abbrev pub wordsIn : ℕ → ℕ
+wordsIn t = t / {WORDS} % {DOWN // WORDS}
+
+abbrev pub endIn : ℕ → ℕ
+endIn t = t / {END} % 2
+
+abbrev pub lastIn : ℕ → ℕ
+lastIn t = t % 2
+
+-- the node beside node e
+unfoldable pub nextTo : ℕ → ℕ → ℕ
+nextTo e t = elim (eqb (lastIn t) 1) [ true ↦ nodeCount | false ↦ suc e ]
+
+unfoldable pub nodeIn : ℕ → ℕ → Node
+nodeIn e t = record {{ letter = letterIn t; ends = eqb (endIn t) 1; words = wordsIn t; down = downIn t; next = nextTo e t }}
+
+unfoldable pub nodes : Table
+nodes = record {{ count = nodeCount; at = λ e. nodeIn e (entryAt e) }}
 
 -- the listed words
 unfoldable pub listing : Trie
-listing = trieAt rootNode
+listing = trieAt nodes rootNode
 """
 
 
-def constants(tables):
-    # one number a line, as the formatter lays arrays out
-    text = f"""// The table of nodes that specs/Mirror.antt of p5_listing defines; written by tools/nodes.py.
+def function(numbers):
+    arms = "\n".join(f"        {i} => {n}," for i, n in enumerate(numbers))
+    return f"""// The table of nodes that specs/Mirror.antt of p5_listing defines, as arms that the compiler makes a constant table of; one
+// function alone calls it, so that the table is read where it is used. Written by tools/nodes.py.
+ghost use mathlib.Core.Path.{{_≡_}};
+ghost use Rattle.p5_listing.specs.Mirror.{{entryAt}};
 
-// how many nodes there are, node 0 among them; the last is the root
-const NODES: usize = {len(tables[0][2])};
+// How many nodes there are; as a node's number, none.
+pub const COUNT: usize = {len(numbers)};
 
-pub const ROOT: usize = NODES - 1;
+pub const ROOT: usize = 0;
+
+// The node's entry, 0 for none.
+pub fn entry(e: usize) -> u32
+    ensures {{ λ r. ⌜ r ≡ entryAt e ⌝ }}
+{{
+    match e {{
+{arms}
+        _ => 0,
+    }}
+}}
 """
-    for name, say, numbers, kind in tables:
-        text += f"\n// {say}\npub const {name.removeprefix('node').upper()}: [{kind}; NODES] = [\n" + lines(numbers, "{},", 1) + "\n];\n"
-    return text
+
+
+def proof(numbers):
+    arms = "\n".join(f"    (λ c. arm entryAt {n} _ {i} (c .match .keys{i + 1}) refl)" for i, n in enumerate(numbers))
+    return f"""-- Each arm answers its number of the list. Written by tools/nodes.py.
+use Prim.Native.Nat.{{ℕ, _≤_, _<_}}
+use mathlib.Core.Path.{{_≡_, refl, sym, ap, _∙_}}
+use mathlib.Core.Bool.{{Bool, true, false}}
+use mathlib.Core.List.{{List, [], _∷_, map}}
+use mathlib.Core.Logic.{{⊎-elim}}
+use native.Mathlib.Omega.{{arith}}
+use lib.Dec.{{T}}
+use lib.ListN.{{List·getD-eq-default}}
+use Rattle.p0_choice.specs.Choice.{{pick, each, from}}
+use Rattle.p0_choice.proofs.Arms.{{arm, amongAny, missed, Missed}}
+use Rattle.p0_choice.proofs.Numbers.{{below-or-not}}
+use Rattle.p0_choice.proofs.Tables.{{each-count}}
+use Rattle.p5_listing.specs.Mirror.{{nodeCount, entries, entryAt}}
+use Rattle.p5_nodes.proofs.entry.Statement.{{statement}}
+use Rattle.p5_nodes.proofs.entry.Tie as tie
+
+arms : List (List ℕ)
+arms = map (λ (k : ℕ). k ∷ []) (from nodeCount 0)
+
+isArm : ℕ → Bool
+isArm k = amongAny k arms
+
+test : T (each isArm (from nodeCount 0))
+unfolding isArm arms
+test = tt
+
+past : (N : Type 0) (x : ℕ) → Missed N arms x → nodeCount ≤ x
+unfolding isArm
+past N x m =
+    ⊎-elim
+    (λ (h : x < nodeCount).
+    let z : _≡_ {{A = Bool}} true false = sym (each-count isArm nodeCount 0 test x (omega arith) h) ∙ missed N arms x m in
+    let y : _≡_ {{A = ℕ}} 1 0 = ap (λ (b : Bool). pick b 1 0) z in
+    absurd (omega arith))
+    (λ (h : nodeCount ≤ x). h) (below-or-not x nodeCount)
+
+none-there : (e : ℕ) → nodeCount ≤ e → 0 ≡ entryAt e
+unfolding entryAt entries
+none-there e h = sym (List·getD-eq-default entries 0 h)
+
+pub entry-spec : {{M : Type 1}} → statement M
+unfolding entryAt entries arms
+entry-spec =
+    tie.close
+    (tie.spec
+{arms}
+    (λ c. none-there _ (past _ _ (c .match .rest))))
+"""
 
 
 def main():
     listed = words()
-    nodes, weights = shared_nodes(listed)
-    letters, stops, downs, nexts = (list(column) for column in zip(*nodes))
-    tables = [
-        ("nodeLetters", "the letter of each node", letters, "u16"),
-        ("nodeStops", "1 where a word ends with the node's letter", stops, "u8"),
-        ("nodeDowns", "the first node below", downs, "u8"),
-        ("nodeNexts", "the next node beside", nexts, "u8"),
-        ("nodeWeights", "how many words go through the node", weights, "u16"),
-    ]
+    numbers = entries(listed)
     if "--words" in sys.argv:
         return print("\n".join(listed))
     if "--bytes" in sys.argv:
-        width = {"u8": 1, "u16": 2}
-        return print(len(listed), "words,", len(nodes) - 1, "nodes,", sum(len(t[2]) * width[t[3]] for t in tables), "bytes")
+        return print(len(listed), "words,", len(numbers), "nodes,", 4 * len(numbers), "bytes")
     stale = []
     for path, text in (
-        ("crates/p5_listing/specs/Mirror.antt", definitions(tables)),
-        ("crates/p5_lister/src/nodes.rt", constants(tables)),
+        ("crates/p5_listing/specs/Mirror.antt", definitions(numbers)),
+        ("crates/p5_nodes/src/lib.rt", function(numbers)),
+        ("crates/p5_nodes/proofs/entry/Proof.antt", proof(numbers)),
     ):
         file = HOME / path
         if "--check" not in sys.argv:
+            file.parent.mkdir(parents=True, exist_ok=True)
             file.write_text(text)
         elif not file.exists() or file.read_text() != text:
             stale.append(path)

@@ -1,3 +1,4 @@
 pub mod Alphabet
 pub mod Tones
 pub mod Vowels
+pub mod Mirror

@@ -5,6 +5,7 @@ ghost use mathlib.Core.Path.{_≡_};
 ghost use mathlib.Core.List.{[], _∷_};
 ghost use lib.Dec.{eqb};
 ghost use Rattle.p0_choice.specs.Choice.{among};
+ghost use Rattle.p1_letters.specs.Mirror.{firstForeign};
 ghost use Rattle.p1_letters.specs.Alphabet.{smallBy32, smallBy1, smallNext, isCapital, inAlphabet, allLetters, isWhiteSpace};
 ghost use Rattle.p1_letters.specs.Alphabet.{isSeparator, asciiLower, asciiUpper, lower as lowerOf, upper as upperOf};
 ghost use Rattle.p1_letters.specs.Tones.{toneFrom, toneOn, toneOff};
@@ -107,17 +108,25 @@ pub fn in_alphabet(x: u32) -> bool
     bit(letters_in(x / 32), x)
 }
 
-pub fn all_letters(s: &[u32]) -> bool
-    ensures { λ r. ⌜ r ≡ allLetters (now (s .entry)) ⌝ }
+// The place of the first letter outside the alphabet; where there is none, the length.
+fn first_foreign(s: &[u32]) -> usize
+    ensures { λ r. ⌜ r ≡ firstForeign (now (s .entry)) ⌝ }
 {
     let mut i: usize = 0;
     while i < s.len() {
         if !in_alphabet(s[i]) {
-            return false;
+            return i;
         }
         i += 1;
     }
-    true
+    i
+}
+
+pub fn all_letters(s: &[u32]) -> bool
+    ensures { λ r. ⌜ r ≡ allLetters (now (s .entry)) ⌝ }
+{
+    let at = first_foreign(s);
+    at == s.len()
 }
 
 pub fn is_white_space(x: u32) -> bool

@@ -1,4 +1,4 @@
--- What the owner does is document 01's key call: the answer, the composition and the output that an stroke leaves are those
+-- What the owner does is document 01's key call: the answer, the composition and the output that a stroke leaves are those
 -- of the definitions.
 use Prim.Native.Nat.{ℕ, zero, suc, _-_, _<_, _≤_}
 use mathlib.Core.Path.{_≡_, refl, sym, ap, _∙_}
@@ -38,15 +38,15 @@ use Rattle.p3_key.specs.Mirror.{letterFor, noStroke, stepStroke, passStr
 use Rattle.p3_key.specs.declared.Stroke.{Stroke}
 use Rattle.p3_key.proofs.Letters.{lettersTo}
 
--- ---- what an stroke leaves
-abbrev pub putEdit : Stroke → List Cell → ℕ → Cell
-putEdit e cells key = putCell (e .change) (e .mark) (getD cells (e .at) blank) (getD cells (e .also) blank) key (asciiLower key)
+-- ---- what a stroke leaves
+abbrev pub putStroke : Stroke → List Cell → ℕ → Cell
+putStroke e cells key = putCell (e .change) (e .mark) (getD cells (e .at) blank) (getD cells (e .also) blank) key (asciiLower key)
 
 unfoldable pub stroked : Composition → Stroke → ℕ → Composition
 stroked c e key =
     record {
-      cells = set (set (c .cells) (e .at) (putEdit e (c .cells) key)) (e .also)
-          (alsoCell (e .change) (putEdit e (c .cells) key));
+      cells = set (set (c .cells) (e .at) (putStroke e (c .cells) key)) (e .also)
+          (alsoCell (e .change) (putStroke e (c .cells) key));
       method = c .method;
       mode = c .mode;
       count = e .count;

@@ -1,5 +1,4 @@
-pub mod Walk
-pub mod Spell
+pub mod Reading
 pub mod Copy
 pub mod Meaning
 pub mod Answers

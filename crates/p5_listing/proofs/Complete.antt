@@ -18,9 +18,9 @@ use Rattle.p4_rows.proofs.InRows.{rowWords, parts}
 use Rattle.p4_spelling.specs.Cut.{onsetEnd, vowelRun, onsetOf, vowelsOf, codaOf}
 use Rattle.p4_spelling.specs.Verdict.{hasForeign, fits}
 use Rattle.p4_spelling.proofs.Parts.{Parts, parts-join, fits-parts}
-use Rattle.p5_trie.specs.Mirror.{Trie}
+use Rattle.p5_trie.specs.Mirror.{Trie, grow, trieAt}
 use Rattle.p5_trie.proofs.Tests.{inTrie}
-use Rattle.p5_listing.specs.Mirror.{nodeLetters, nodeStops, nodeDowns, nodeNexts, grow, trieAt, listing}
+use Rattle.p5_listing.specs.Mirror.{entries, entryAt, nextTo, nodeIn, nodes, listing}
 use Rattle.p5_listing.proofs.Plain.{Toneless, core}
 use Rattle.p5_listing.proofs.Quick.{quickAmong, quickSame, quickIn, quickRows, quickBefore, quickRun, quickGlued, quickPairs}
 use Rattle.p5_listing.proofs.Quick.{quickShape, quickEnd, quickForeign, quick-shape, quick-end, quick-rest, quick-foreign}
@@ -51,8 +51,8 @@ unfoldable tryAll : Trie → List ℕ → List ℕ → List Word → List (List 
 tryAll t fs vs gs onsets nuclei codas = each (λ o. tryVowels t fs vs gs nuclei codas o (quickRows 0 onsets o)) (parts onsets)
 
 tries-all : T (tryAll listing (word "fjwz") vowels (words "qu gi") onsetRows vowelRows codaRows)
-unfolding tryAll tryVowels tryCodas tried astray astrayAt inTrie parts rowWords listing trieAt grow nodeLetters nodeStops nodeDowns
-    nodeNexts word words wordsFrom vowels onsetRows vowelRows codaRows onsetToVowels vowelsToCoda goTogether allows allowsAny quickAmong
+unfolding tryAll tryVowels tryCodas tried astray astrayAt inTrie parts rowWords listing trieAt grow nodes nodeIn nextTo entryAt entries
+    word words wordsFrom vowels onsetRows vowelRows codaRows onsetToVowels vowelsToCoda goTogether allows allowsAny quickAmong
     quickSame quickIn quickRows quickBefore quickRun quickGlued quickPairs quickShape quickEnd quickForeign
 tries-all = tt
 

@@ -9,9 +9,9 @@ use Rattle.p1_letters.specs.Vowels.{vowels}
 use Rattle.p4_rows.specs.Rows.{Word, onsetRows, vowelRows, codaRows, onsetToVowels, vowelsToCoda}
 use Rattle.p4_rows.specs.Lookup.{goTogether, allows, allowsAny}
 use Rattle.p4_spelling.specs.Verdict.{longestLength}
-use Rattle.p5_trie.specs.Mirror.{Trie, trieSize}
+use Rattle.p5_trie.specs.Mirror.{Trie, trieSize, grow, trieAt}
 use Rattle.p5_trie.proofs.Tests.{every, isAbove, isSorted, depth}
-use Rattle.p5_listing.specs.Mirror.{nodeLetters, nodeStops, nodeDowns, nodeNexts, grow, trieAt, listing}
+use Rattle.p5_listing.specs.Mirror.{entries, entryAt, nextTo, nodeIn, nodes, listing}
 use Rattle.p5_listing.specs.Counts.{wordCount}
 use Rattle.p5_listing.proofs.Quick.{quickAmong, quickSame, quickIn, quickRows, quickBefore, quickRun, quickGlued, quickPairs}
 use Rattle.p5_listing.proofs.Quick.{quickShape, quickEnd, quickParted, quickRest, quickFrom, quickFits, quickForeign, quickCore}
@@ -19,22 +19,22 @@ use Rattle.p5_listing.proofs.Quick.{quick}
 
 -- "By our count 5,963 toneless words pass"
 pub size-listing : trieSize listing ≡ wordCount
-unfolding trieSize listing trieAt grow nodeLetters nodeStops nodeDowns nodeNexts
+unfolding trieSize listing trieAt grow nodes nodeIn nextTo entryAt entries
 size-listing = refl
 
 pub depth-listing : depth listing ≡ longestLength
-unfolding depth listing trieAt grow nodeLetters nodeStops nodeDowns nodeNexts
+unfolding depth listing trieAt grow nodes nodeIn nextTo entryAt entries
 depth-listing = refl
 
 pub sorted-listing : T (isSorted listing)
-unfolding isAbove isSorted listing trieAt grow nodeLetters nodeStops nodeDowns nodeNexts
+unfolding isAbove isSorted listing trieAt grow nodes nodeIn nextTo entryAt entries
 sorted-listing = tt
 
 accepts : Trie → List (List Word) → List (List Word) → List (List Word) → List ℕ → List Word → List ℕ → Bool
 accepts t os ns cs vs gs fs = every t (λ w. quickCore os ns cs vs gs fs w)
 
 accepts-all : T (accepts listing onsetRows vowelRows codaRows vowels (words "qu gi") (word "fjwz"))
-unfolding accepts every listing trieAt grow nodeLetters nodeStops nodeDowns nodeNexts word words wordsFrom vowels onsetRows vowelRows
+unfolding accepts every listing trieAt grow nodes nodeIn nextTo entryAt entries word words wordsFrom vowels onsetRows vowelRows
     codaRows onsetToVowels vowelsToCoda goTogether allows allowsAny quickAmong quickSame quickIn quickRows quickBefore quickRun quickGlued
     quickPairs quickShape quickEnd quickParted quickRest quickFrom quickFits quickForeign quickCore
 accepts-all = tt

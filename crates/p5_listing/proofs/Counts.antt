@@ -17,13 +17,13 @@ use Rattle.p4_rows.proofs.Words.{each-in}
 use Rattle.p4_spelling.specs.Cut.{beforeVowel, vowelRun, isGlue, startsGlued, onsetEnd, onsetOf, vowelsOf}
 use Rattle.p4_spelling.specs.Verdict.{verdict, longestLength}
 use Rattle.p4_spelling.proofs.Folding.{too-long}
-use Rattle.p5_trie.specs.Mirror.{Trie, trieSize, nth}
+use Rattle.p5_trie.specs.Mirror.{Trie, trieSize, nth, grow, trieAt}
 use Rattle.p5_trie.proofs.Tests.{inTrie}
 use Rattle.p5_trie.proofs.Numbering as Tries
 use Rattle.p5_trie.proofs.Kept.{keptIn, kept-lists}
 use Rattle.p5_listing.specs.Listed.{Listed}
 use Rattle.p5_listing.specs.Counts.{isBareOnset, isWithoutOnset, hasBoth, ManyListed, Counts}
-use Rattle.p5_listing.specs.Mirror.{nodeLetters, nodeStops, nodeDowns, nodeNexts, grow, trieAt, listing}
+use Rattle.p5_listing.specs.Mirror.{entries, entryAt, nextTo, nodeIn, nodes, listing}
 use Rattle.p5_listing.proofs.Plain.{Toneless, plain-toneless}
 use Rattle.p5_listing.proofs.Quick.{quickAmong, quick-vowel}
 use Rattle.p5_listing.proofs.Numbering.{lists, numbering}
@@ -44,15 +44,15 @@ how-many : (List ℕ → Word → Bool) → Trie → List ℕ → ℕ
 how-many f t vs = trieSize (keptIn (λ u. f vs u) t)
 
 bare : how-many quickBare listing vowels ≡ 25
-unfolding how-many trieSize keptIn quickBare listing trieAt grow nodeLetters nodeStops nodeDowns nodeNexts word vowels quickAmong
+unfolding how-many trieSize keptIn quickBare listing trieAt grow nodes nodeIn nextTo entryAt entries word vowels quickAmong
 bare = refl
 
 without : how-many quickWithout listing vowels ≡ 217
-unfolding how-many trieSize keptIn quickWithout listing trieAt grow nodeLetters nodeStops nodeDowns nodeNexts word vowels quickAmong
+unfolding how-many trieSize keptIn quickWithout listing trieAt grow nodes nodeIn nextTo entryAt entries word vowels quickAmong
 without = refl
 
 both : how-many quickBoth listing vowels ≡ 5721
-unfolding how-many trieSize keptIn quickBoth quickBare quickWithout listing trieAt grow nodeLetters nodeStops nodeDowns nodeNexts word
+unfolding how-many trieSize keptIn quickBoth quickBare quickWithout listing trieAt grow nodes nodeIn nextTo entryAt entries word
     vowels quickAmong
 both = refl
 
@@ -167,7 +167,7 @@ longest : Word
 longest = word "nghuyêng"
 
 longest-held : T (inTrie listing longest)
-unfolding longest inTrie listing trieAt grow nodeLetters nodeStops nodeDowns nodeNexts word
+unfolding longest inTrie listing trieAt grow nodes nodeIn nextTo entryAt entries word
 longest-held = tt
 
 eight-letters : length longest ≡ longestLength

@@ -1,125 +1,180 @@
--- A node's trie is the node over the tries of its two nodes, and what the table says of a node is so.
-use Prim.Native.Nat.{ℕ, zero, suc, _+_, _≤_, _<_}
-use mathlib.Core.Path.{_≡_, refl, sym, ap₂, _∙_}
-use mathlib.Core.Bool.{Bool, true, _&&_}
+-- The table is sound, its letters are plain, and an entry says what its node is.
+use Prim.Native.Nat.{ℕ, zero, suc, _+_, _-_, _/_, _%_, _≤_, _<_}
+use mathlib.Core.Path.{_≡_, refl, sym, ap, _∙_, subst}
+use mathlib.Core.Bool.{Bool, true, false, _&&_}
+use mathlib.Core.Logic.{⊎-elim}
 use native.Mathlib.Omega.{arith}
-use lib.Dec.{T, eqb, leb, eqb→eq, leb→le}
-use lib.ListN.{getD}
+use lib.Dec.{T, eqb, ltb, leb, eqb→eq, ltb→lt, leb→le}
 use mir.Facts.{and-yes}
+use native.Mathlib.Numerals.{add-one}
+use borrow.Author.Tests.{eq-eqb, ne-eqb, eqb-true, eqb-false}
 use Rattle.p0_choice.specs.Text.{word}
+use Rattle.p0_choice.proofs.Numbers.{below-or-not}
 use Rattle.p0_choice.proofs.Tables.{each-count}
 use Rattle.p1_letters.specs.Alphabet.{lower, isAsciiCapital, smallBy32, smallBy1, smallHigh, smallNext}
 use Rattle.p1_letters.specs.Tones.{toneOff, offIn, toneRows}
-use Rattle.p5_trie.specs.Mirror.{Trie, none, node, one, trieSize}
-use Rattle.p5_trie.proofs.Words.{Letters}
-use Rattle.p5_listing.specs.Mirror.{nodeCount, rootNode, nodeLetters, nodeStops, nodeDowns, nodeNexts, nodeWeights, grow, trieAt}
-use Rattle.p5_listing.specs.Mirror.{listing}
 use Rattle.p4_spelling.proofs.Letters.{plainLetter}
+use Rattle.p5_trie.specs.Mirror.{one, trieSize, grow, trieAt}
+use Rattle.p5_trie.proofs.Words.{Letters}
+use Rattle.p5_trie.proofs.Table.{SoundAt, Sound, opens, at-none}
+use Rattle.p5_listing.specs.Mirror.{nodeCount, rootNode, entries, entryAt, letterIn, downIn, wordsIn, endIn, lastIn, nextTo, nodeIn}
+use Rattle.p5_listing.specs.Mirror.{nodes, listing}
 
-abbrev pub letterAt : ℕ → ℕ
-letterAt e = getD nodeLetters e 0
+-- a node leads down to a higher one or to none, it counts the words through it, of which there are some, and its letter is
+-- plain and below the number that a walk for no letter asks for
+rightIn : ℕ → ℕ → Bool
+rightIn e t =
+    (ltb e (downIn t) && leb (downIn t) nodeCount)
+    && ((eqb (wordsIn t) (one (eqb (endIn t) 1) + trieSize (trieAt nodes (downIn t))) && ltb 0 (wordsIn t))
+    && (eqb (plainLetter (letterIn t)) (letterIn t) && ltb (letterIn t) 4294967295))
 
-abbrev pub stopAt : ℕ → ℕ
-stopAt e = getD nodeStops e 0
-
-abbrev pub downAt : ℕ → ℕ
-downAt e = getD nodeDowns e 0
-
-abbrev pub nextAt : ℕ → ℕ
-nextAt e = getD nodeNexts e 0
-
-abbrev pub weightAt : ℕ → ℕ
-weightAt e = getD nodeWeights e 0
-
-abbrev pub endsAt : ℕ → Bool
-endsAt e = eqb (stopAt e) 1
-
--- a node's down and next are lower, its stop is 0 or 1, its weight counts the words through it, its letter is plain
 right : ℕ → Bool
-right zero = true
-right (suc e) =
-    (leb (downAt (suc e)) e && leb (nextAt (suc e)) e)
-    && ((eqb (stopAt (suc e)) (one (endsAt (suc e))) && eqb (weightAt (suc e)) (one (endsAt (suc e)) + trieSize (trieAt (downAt (suc e)))))
-    && eqb (plainLetter (letterAt (suc e))) (letterAt (suc e)))
+right e = rightIn e (entryAt e)
 
 all-right : (e : ℕ) → e < nodeCount → right e ≡ true
-unfolding right trieSize trieAt grow nodeLetters nodeStops nodeDowns nodeNexts nodeWeights plainLetter word lower isAsciiCapital smallBy32
-    smallBy1 smallHigh smallNext toneOff offIn toneRows
+unfolding right rightIn trieSize trieAt grow nodes nodeIn nextTo entryAt entries plainLetter word lower
+    isAsciiCapital smallBy32 smallBy1 smallHigh smallNext toneOff offIn toneRows
 all-right e h = each-count right nodeCount 0 tt e (omega arith) h
 
-pub record NodeRight (e : ℕ) : Type 0 where
-  pub down-falls : downAt e < e
-  pub next-falls : nextAt e < e
-  pub stop-is : stopAt e ≡ one (endsAt e)
-  pub weight-is : weightAt e ≡ one (endsAt e) + trieSize (trieAt (downAt e))
-  pub letter-plain : T (eqb (plainLetter (letterAt e)) (letterAt e))
+next-rises : (e t : ℕ) → e < nodeCount → (e < nextTo e t) × (nextTo e t ≤ nodeCount)
+unfolding nextTo
+next-rises e t h = go (eqb (lastIn t) 1)
+  where
+    go : (b : Bool) → (e < elim b [ true ↦ nodeCount | false ↦ suc e ]) × (elim b [ true ↦ nodeCount | false ↦ suc e ] ≤ nodeCount)
+    go true = (h, omega arith)
+    go false = (omega arith, omega arith)
 
-pub is-right : (e : ℕ) → 0 < e → e < nodeCount → NodeRight e
-unfolding right
-is-right zero p h = absurd (omega arith)
-is-right (suc e) p h =
-    let D : Bool = leb (downAt (suc e)) e in
-    let N : Bool = leb (nextAt (suc e)) e in
-    let S : Bool = eqb (stopAt (suc e)) (one (endsAt (suc e))) in
-    let W : Bool = eqb (weightAt (suc e)) (one (endsAt (suc e)) + trieSize (trieAt (downAt (suc e)))) in
-    let L : Bool = eqb (plainLetter (letterAt (suc e))) (letterAt (suc e)) in
-    let t : T ((D && N) && ((S && W) && L)) = rw (all-right (suc e) h) tt in
-    let a : T (D && N) × T ((S && W) && L) = and-yes (D && N) ((S && W) && L) t in
-    let b : T D × T N = and-yes D N (a .0) in
-    let c : T (S && W) × T L = and-yes (S && W) L (a .1) in
-    let d : T S × T W = and-yes S W (c .0) in
-    record {
-      down-falls = omega (arith, leb→le (downAt (suc e)) e (b .0));
-      next-falls = omega (arith, leb→le (nextAt (suc e)) e (b .1));
-      stop-is = eqb→eq (stopAt (suc e)) (one (endsAt (suc e))) (d .0);
-      weight-is = eqb→eq (weightAt (suc e)) (one (endsAt (suc e)) + trieSize (trieAt (downAt (suc e)))) (d .1);
-      letter-plain = c .1;
-    }
+module _ (e : ℕ) (h : e < nodeCount) where
+  t : ℕ
+  t = entryAt e
 
--- levels past a node's own number add nothing
-stable : (k e : ℕ) → e ≤ k → e < nodeCount → grow (suc k) e ≡ grow k e
-unfolding grow
-stable zero zero h l = refl
-stable zero (suc e) h l = absurd (omega arith)
-stable (suc k) zero h l = refl
-stable (suc k) (suc e) h l =
-    let r : NodeRight (suc e) = is-right (suc e) (omega arith) l in
-    ap₂ (λ (d s : Trie). node (letterAt (suc e)) (endsAt (suc e)) d s)
-    (stable k (downAt (suc e)) (omega (arith, r .down-falls)) (omega (arith, r .down-falls)))
-    (stable k (nextAt (suc e)) (omega (arith, r .next-falls)) (omega (arith, r .next-falls)))
+  D : Bool
+  D = ltb e (downIn t)
 
-grown : (k e : ℕ) → grow (suc k) (suc e) ≡ node (letterAt (suc e)) (endsAt (suc e)) (grow k (downAt (suc e))) (grow k (nextAt (suc e)))
-unfolding grow
-grown k e = refl
+  M : Bool
+  M = leb (downIn t) nodeCount
+
+  W : Bool
+  W = eqb (wordsIn t) (one (eqb (endIn t) 1) + trieSize (trieAt nodes (downIn t)))
+
+  L : Bool
+  L = ltb 0 (wordsIn t)
+
+  P : Bool
+  P = eqb (plainLetter (letterIn t)) (letterIn t)
+
+  S : Bool
+  S = ltb (letterIn t) 4294967295
+
+  passed : T ((D && M) && ((W && L) && (P && S)))
+  unfolding right rightIn D M W L P S t
+  passed = rw (all-right e h) tt
+
+  falls : T D × T M
+  falls = and-yes D M (and-yes (D && M) ((W && L) && (P && S)) passed .0)
+
+  others : T (W && L) × T (P && S)
+  others = and-yes (W && L) (P && S) (and-yes (D && M) ((W && L) && (P && S)) passed .1)
+
+  counts : T W × T L
+  counts = and-yes W L (others .0)
+
+  sound-at : SoundAt nodes e
+  unfolding nodes nodeIn D M W L t
+  sound-at = record {
+    down-rises = ltb→lt e (downIn (entryAt e)) (falls .0);
+    down-within = leb→le (downIn (entryAt e)) nodeCount (falls .1);
+    next-rises = next-rises e (entryAt e) h .0;
+    next-within = next-rises e (entryAt e) h .1;
+    words-are =
+        eqb→eq (wordsIn (entryAt e)) (one (eqb (endIn (entryAt e)) 1) + trieSize (trieAt nodes (downIn (entryAt e)))) (counts .0);
+    live = ltb→lt 0 (wordsIn (entryAt e)) (counts .1);
+  }
+
+  plain-at : T (eqb (plainLetter (nodes .at e .letter)) (nodes .at e .letter))
+  unfolding nodes nodeIn P t
+  plain-at = and-yes P S (others .1) .0
+
+  pub letter-low : nodes .at e .letter < 4294967295
+  unfolding nodes nodeIn S t
+  letter-low = ltb→lt (letterIn (entryAt e)) 4294967295 (and-yes P S (others .1) .1)
+
+pub count-is : nodes .count ≡ nodeCount
+unfolding nodes
+count-is = refl
+
+pub sound : Sound nodes
+sound e h = sound-at e (rw (← count-is) h)
 
 -- the letters of the words are their own lower-case toneless forms
-grow-plain : (k e : ℕ) → e < nodeCount → Letters (λ (x : ℕ). eqb (plainLetter x) x) (grow k e)
-unfolding grow
-grow-plain zero e h = tt
-grow-plain (suc k) zero h = tt
-grow-plain (suc k) (suc e) h =
-    let r : NodeRight (suc e) = is-right (suc e) (omega arith) h in (
-      r .letter-plain,
+plain-from : (k e : ℕ) → nodeCount ≤ k + e → Letters (λ (x : ℕ). eqb (plainLetter x) x) (trieAt nodes e)
+plain-from zero e h =
+    subst (Letters (λ (x : ℕ). eqb (plainLetter x) x)) (sym (at-none nodes e (omega (arith, count-is)))) tt
+plain-from (suc k) e h =
+    ⊎-elim
+    (λ (l : e < nodeCount).
+    let i : e < nodes .count = rw count-is l in
+    subst (Letters (λ (x : ℕ). eqb (plainLetter x) x)) (sym (opens nodes sound e i)) (
+      plain-at e l,
       (
-        grow-plain k (downAt (suc e)) (omega (arith, r .down-falls)),
-        grow-plain k (nextAt (suc e))
-            (omega (arith, r .next-falls)),
+        plain-from k (nodes .at e .down) (omega (arith, sound e i .down-rises)),
+        plain-from k (nodes .at e .next) (omega (arith, sound e i .next-rises)),
       ),
-    )
+    ))
+    (λ (l : nodeCount ≤ e). subst (Letters (λ (x : ℕ). eqb (plainLetter x) x)) (sym (at-none nodes e (omega (arith, count-is)))) tt)
+    (below-or-not e nodeCount)
 
 pub listing-plain : Letters (λ (x : ℕ). eqb (plainLetter x) x) listing
-unfolding listing trieAt
-listing-plain = grow-plain nodeCount rootNode (omega arith)
+unfolding listing
+listing-plain = plain-from nodeCount rootNode (omega arith)
 
-pub root : trieAt rootNode ≡ listing
+pub root : trieAt nodes rootNode ≡ listing
 unfolding listing
 root = refl
 
-pub at-none : trieAt 0 ≡ none
-unfolding trieAt grow
-at-none = refl
+-- ---- what an entry says of its node
+bit : (n : ℕ) → n % 2 ≡ one (eqb (n % 2) 1)
+bit n = go (eqb (n % 2) 1) refl
+  where
+    go : (b : Bool) → eqb (n % 2) 1 ≡ b → n % 2 ≡ one b
+    go true q = eqb-true (n % 2) 1 q
+    go false q = let d : (n % 2 ≡ 1 → ⊥) = eqb-false (n % 2) 1 q in omega arith
 
-pub opens : (e : ℕ) → 0 < e → e < nodeCount → trieAt e ≡ node (letterAt e) (endsAt e) (trieAt (downAt e)) (trieAt (nextAt e))
-unfolding trieAt
-opens zero p h = absurd (omega arith)
-opens (suc e) p h = sym (stable nodeCount (suc e) (omega arith) h) ∙ grown nodeCount e
+-- the last node of the table is the last of its row
+end-last : lastIn (entryAt (nodeCount - 1)) ≡ 1
+unfolding entryAt entries
+end-last = refl
+
+module _ (e t : ℕ) (r : t ≡ entryAt e) where
+  pub letter-is : letterIn t ≡ nodes .at e .letter
+  unfolding nodes nodeIn
+  letter-is = ap letterIn r
+
+  pub words-is : wordsIn t ≡ nodes .at e .words
+  unfolding nodes nodeIn
+  words-is = ap wordsIn r
+
+  pub down-is : downIn t ≡ nodes .at e .down
+  unfolding nodes nodeIn
+  down-is = ap downIn r
+
+  pub end-is : endIn t ≡ one (nodes .at e .ends)
+  unfolding nodes nodeIn
+  end-is = bit (t / 2) ∙ ap (λ (n : ℕ). one (eqb (endIn n) 1)) r
+
+  pub next-none : lastIn t ≡ 1 → nodeCount ≡ nodes .at e .next
+  unfolding nodes nodeIn nextTo
+  next-none h = rw (eq-eqb (lastIn (entryAt e)) 1 (sym (ap lastIn r) ∙ h), nextTo) refl
+
+  module _ (h : lastIn t ≡ 1 → ⊥) where
+    pub next-on : e + 1 ≡ nodes .at e .next
+    unfolding nodes nodeIn nextTo
+    next-on =
+        add-one e ∙ rw (ne-eqb (lastIn (entryAt e)) 1 (λ (z : lastIn (entryAt e) ≡ 1). h (ap lastIn r ∙ z)), nextTo) refl
+
+    pub next-some : e < nodeCount → e + 1 < nodeCount
+    next-some l =
+        ⊎-elim (λ (k : e + 1 < nodeCount). k)
+        (λ (k : nodeCount ≤ e + 1).
+        absurd (h (ap lastIn (r ∙ ap entryAt (omega arith)) ∙ end-last)))
+        (below-or-not (e + 1) nodeCount)

@@ -4,3 +4,8 @@ pub mod Words
 pub mod Unique
 pub mod Numbering
 pub mod Kept
+pub mod Following
+pub mod Table
+pub mod Scan
+pub mod Spell
+pub mod Turn

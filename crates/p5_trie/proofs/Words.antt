@@ -7,6 +7,7 @@ use mathlib.Core.Bool.{Bool, true, false, cond, _&&_, _||_}
 use mathlib.Core.List.{List, [], _∷_}
 use native.Mathlib.Omega.{arith}
 use lib.Dec.{T, eqb, ltb→lt}
+use lib.ListN.{length}
 use mir.Facts.{or-yes, and-yes}
 use borrow.Author.Tests.{lt-ltb, le-ltb, eq-eqb, ne-eqb, eqb-true}
 use Rattle.p0_choice.specs.Choice.{pick, each}
@@ -65,6 +66,17 @@ pub upTo-empty : (t : Trie) → upTo t [] ≡ 0
 unfolding upTo
 upTo-empty none = refl
 upTo-empty (node c a d s) = refl
+
+-- the empty word has no number
+pub nth-some : (t : Trie) (n : ℕ) → n < trieSize t → nth t n ≡ [] → ⊥
+nth-some none n h e = omega (arith, size-none)
+nth-some (node c a d s) n h e =
+    ⊎-elim (λ l. omega (arith, ap length (sym (nth-end c a d s n l) ∙ e)))
+    (λ l.
+    ⊎-elim (λ m. omega (arith, ap length (sym (nth-into c a d s n l m) ∙ e)))
+    (λ m. nth-some s (n - (one a + trieSize d)) (omega (arith, size-node c a d s)) (sym (nth-past c a d s n m) ∙ e))
+    (below-or-not n (one a + trieSize d)))
+    (below-or-not n (one a))
 
 -- no more words are at most w than there are
 pub upTo-le : (t : Trie) (w : List ℕ) → upTo t w ≤ trieSize t

@@ -1,7 +1,9 @@
 pub mod Reading
 pub mod Tests
+pub mod Zeros
 pub mod Sound
 pub mod Writing
 pub mod Round
+pub mod Stored
 pub mod Fields
 pub mod Only

@@ -22,3 +22,12 @@ cell-count-only κs a asked z z′ w w′ q q′ = (alike q q′, refl)
 
 pub encode-only : OneAnswerAsked own.encode.Kinds.ps own.encode.Kinds.r own.encode.Reads.Asked own.encode.Reads.Learnt
 encode-only κs a asked z z′ w w′ q q′ = (refl, λ i. (tt, (alike q q′ i, tt)))
+
+pub put-zeros-only : OneAnswerAsked own.put_zeros.Kinds.ps own.put_zeros.Kinds.r own.put_zeros.Reads.Asked own.put_zeros.Reads.Learnt
+put-zeros-only κs a asked z z′ w w′ q q′ = (refl, λ i. (alike q q′ i, (tt, (tt, tt))))
+
+pub cell-only : OneAnswerAsked own.cell.Kinds.ps own.cell.Kinds.r own.cell.Reads.Asked own.cell.Reads.Learnt
+cell-only κs a asked z z′ w w′ q q′ = (alike q q′, refl)
+
+pub store-only : OneAnswerAsked own.store.Kinds.ps own.store.Kinds.r own.store.Reads.Asked own.store.Reads.Learnt
+store-only κs a asked z z′ w w′ q q′ = (refl, λ i. (alike (q .1) (q′ .1) i, (tt, (tt, tt))))

@@ -33,7 +33,7 @@ flag-small : (t : Bool) → flagByte t ≤ 1
 flag-small true = omega arith
 flag-small false = omega arith
 
-method-back : (m : InputMethod) → methodOf (methodByte m) ≡ m
+pub method-back : (m : InputMethod) → methodOf (methodByte m) ≡ m
 unfolding methodOf
 method-back Telex = refl
 method-back Vni = refl

@@ -24,7 +24,7 @@ use Rattle.p0_choice.proofs.Tests.{both-are, are-both, holds, each-from}
 use Rattle.p3_cells.proofs.Soundness.{sound-is, is-sound, cell-is, is-cell}
 use Rattle.p6_bytes.specs.Bytes.{head, known, start, size, byteAt, cellAt, cellsAt, methodOf, modeOf, compositionOf, spellsCell}
 use Rattle.p6_bytes.specs.Bytes.{isZero, reservedZero, bytesSound}
-use Rattle.p6_bytes.specs.Mirror.{cellFits, cellsFit, zeroFrom}
+use Rattle.p6_bytes.specs.Mirror.{cellFits, cellsFit, zeroIn, zeroFrom}
 use Rattle.p6_bytes.proofs.Reading.{cells-length, cells-at}
 
 each-is : (p : ℕ → Bool) (n i : ℕ) → each p (from n i) ≡ true → (j : ℕ) → i ≤ j → j < i + n → p j ≡ true
@@ -147,7 +147,7 @@ module _ (b : List ℕ) (s : bytesSound b ≡ true) where
       rw e (blank-zero b i (sound-flag i m) (cell-past i (omega arith) m) ((k - head) % 8) (omega arith))
 
   pub sound-zero : zeroFrom b (start (byteAt b 2)) ≡ true
-  unfolding zeroFrom isZero
+  unfolding zeroFrom zeroIn isZero
   sound-zero =
       let n = sound-count in
       let z = sound-size in
@@ -194,7 +194,7 @@ module _ (b : List ℕ) where
     tests-sound : length b ≡ size → byteAt b 0 ≤ 1 → byteAt b 1 ≤ 1 → n ≤ limit → reservedZero b ≡ true → cellsFit b n ≡ true
         → zeroFrom b (start n) ≡ true
         → bytesSound b ≡ true
-    unfolding bytesSound compositionOf cellsFit cellFits zeroFrom isZero
+    unfolding bytesSound compositionOf cellsFit cellFits zeroFrom zeroIn isZero
     tests-sound l m o f w c z =
         rw (
           eq-eqb (length b) size l,

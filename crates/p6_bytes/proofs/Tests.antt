@@ -3,15 +3,18 @@ use Prim.Native.Nat.{ℕ, suc, _+_, _*_, _-_, _≤_, _<_}
 use mathlib.Core.Path.{_≡_, refl, sym, _∙_}
 use mathlib.Core.Bool.{Bool, true, false, not}
 use mathlib.Core.List.{List}
+use mathlib.Core.Logic.{inl}
 use native.Mathlib.Omega.{arith}
 use lib.Dec.{eqb, ltb}
-use lib.ListN.{length}
-use borrow.Author.Tests.{eq-eqb, ne-eqb, eqb-true, eqb-false, lt-ltb, le-ltb, le-leb, lt-leb, not-true, not-false}
+use borrow.Author.Tests.{ne-eqb, eqb-true, eqb-false, lt-ltb, le-ltb, le-leb, lt-leb, not-true, not-false}
 use Rattle.p0_choice.specs.Choice.{pick, each, from as numbers}
+use Rattle.p0_choice.proofs.Tests.{are-both}
+use Rattle.p1_letters.specs.Alphabet.{inAlphabet}
 use Rattle.p3_cells.specs.Cells.{isCell}
 use Rattle.p3_cells.specs.declared.Cell.{Cell}
+use Rattle.p3_cells.proofs.Soundness.{is-cell}
 use Rattle.p6_bytes.specs.Bytes.{byteAt, cellAt, start, spellsCell, isZero, reservedZero}
-use Rattle.p6_bytes.specs.Mirror.{cellFits, cellsFit, zeroFrom}
+use Rattle.p6_bytes.specs.Mirror.{longAt, cellFits, cellsFit}
 
 turn : (p : ℕ → Bool) (n i : ℕ) → i < n → each p (numbers (n - i) i) ≡ pick (p i) (each p (numbers (n - (i + 1)) (i + 1))) false
 turn p n i h =
@@ -41,9 +44,9 @@ module _ (b0 b1 b2 b3 b4 b5 b6 b7 : ℕ) (h0 : b0 < 256) (h1 : b1 < 256) (h2 : b
   below-as n true p e = let z = eqb-true (b3 + (b4 + (b5 + (b6 + b7)))) 0 e in lt-ltb n 16777216 (omega arith)
   below-as n false p e = le-ltb n 16777216 (omega (arith, eqb-false (b3 + (b4 + (b5 + (b6 + b7)))) 0 e))
 
-  pub below : ltb (b0 + b1 * 256 + b2 * 65536 + b3 * 16777216 + b4 * 4294967296 + b5 * 1099511627776 + b6 * 281474976710656 + b7
-      * 72057594037927936) 16777216 ≡ eqb (b3 + (b4 + (b5 + (b6 + b7)))) 0
-  below = below-as _ _ refl refl
+  pub below : (n : ℕ) → n ≡ b0 + b1 * 256 + b2 * 65536 + b3 * 16777216 + b4 * 4294967296 + b5 * 1099511627776 + b6 * 281474976710656
+      + b7 * 72057594037927936 → ltb n 16777216 ≡ eqb (b3 + (b4 + (b5 + (b6 + b7)))) 0
+  below n p = below-as n _ p refl
 
 pub free : (b : List ℕ) (r : Bool) → r ≡ eqb (byteAt b 3 + (byteAt b 4 + (byteAt b 5 + (byteAt b 6 + byteAt b 7)))) 0 → r ≡ reservedZero b
 unfolding reservedZero isZero
@@ -59,7 +62,25 @@ free b r e =
     ) refl)
 
 -- ---- one cell
+pub long-read : (b : List ℕ) (at n : ℕ)
+    → n ≡ byteAt b at + byteAt b (at + 1) * 256 + byteAt b (at + 2) * 65536 + byteAt b (at + 3) * 16777216 + byteAt b (at + 4) * 4294967296
+    + byteAt b (at + 5) * 1099511627776 + byteAt b (at + 6) * 281474976710656 + byteAt b (at + 7) * 72057594037927936
+    → n ≡ longAt b at
+unfolding longAt
+long-read b at n e = e
+
+ascii-cell : (x : Cell) → x .base < 128 → x .mark ≡ 0 → x .tone ≡ 0 → isCell x ≡ true
+unfolding inAlphabet
+ascii-cell x b m t = is-cell x (record { base = rw (lt-ltb (x .base) 0x80 b) refl; mark = inl m; tone = inl t })
+
 module _ (b : List ℕ) (i : ℕ) where
+  -- an ASCII letter alone: the other seven bytes are 0
+  pub letter-alone : (w : ℕ) → w ≡ longAt b (start i) → w < 128 → true ≡ cellFits b i
+  unfolding longAt cellFits spellsCell cellAt
+  letter-alone w e l =
+      sym (are-both _ _ (le-leb (byteAt b (start i + 7)) 1 (omega arith))
+      (ascii-cell (cellAt b (start i)) (omega arith) (omega arith) (omega arith)))
+
   pub no-flag : 1 < byteAt b (start i + 7) → false ≡ cellFits b i
   unfolding cellFits spellsCell
   no-flag h = rw (lt-leb (byteAt b (start i + 7)) 1 h) refl
@@ -82,37 +103,3 @@ module _ (b : List ℕ) (n i : ℕ) (e : cellsFit b n ≡ each (cellFits b) (num
 
   pub fit-done : n ≤ i → true ≡ cellsFit b n
   fit-done h = sym (e ∙ end (cellFits b) n i h)
-
--- ---- the bytes past them
-pub greater-right : (x y : ℕ) → x < y → eqb y 0 ≡ pick (eqb x 0) (eqb y 0) false
-greater-right x y h = go (eqb x 0)
-  where
-    go : (t : Bool) → eqb y 0 ≡ pick t (eqb y 0) false
-    go true = refl
-    go false = ne-eqb y 0 (λ (e : y ≡ 0). omega arith)
-
-pub greater-left : (x y : ℕ) → y ≤ x → eqb x 0 ≡ pick (eqb x 0) (eqb y 0) false
-greater-left x y h = go (eqb x 0) refl
-  where
-    go : (t : Bool) → eqb x 0 ≡ t → t ≡ pick t (eqb y 0) false
-    go true e = let z = eqb-true x 0 e in sym (eq-eqb y 0 (omega arith))
-    go false e = refl
-
-regroup : (a z r : Bool) → pick a (pick z r false) false ≡ pick (pick a z false) r false
-regroup true z r = refl
-regroup false z r = refl
-
-pub zero-start : (b : List ℕ) (at : ℕ) → zeroFrom b at ≡ pick (eqb 0 0) (each (isZero b) (numbers (length b - at) at)) false
-unfolding zeroFrom
-zero-start b at = refl
-
-module _ (b : List ℕ) (at most i : ℕ) (e : zeroFrom b at ≡ pick (eqb most 0) (each (isZero b) (numbers (length b - i) i)) false) where
-  pub zero-on : (next v : ℕ) → i < length b → v ≡ byteAt b i → eqb next 0 ≡ pick (eqb most 0) (eqb v 0) false
-      → zeroFrom b at ≡ pick (eqb next 0) (each (isZero b) (numbers (length b - (i + 1)) (i + 1))) false
-  unfolding isZero
-  zero-on next v h p q =
-      e ∙ rw (turn (isZero b) (length b) i h, q, p)
-      (regroup (eqb most 0) (eqb (byteAt b i) 0) (each (isZero b) (numbers (length b - (i + 1)) (i + 1))))
-
-  pub zero-done : length b ≤ i → eqb most 0 ≡ zeroFrom b at
-  zero-done h = sym (e ∙ rw (end (isZero b) (length b) i h) (whole (eqb most 0)))

@@ -118,7 +118,7 @@ module _ (b₀ b : List ℕ) (at i : ℕ) (e : b ≡ take at b₀ ++ (zeros (i -
   zeros-done end l h = let z : i ≡ end = omega arith in rw z at e
 
 -- ---- the whole
-blank-bytes : (k : ℕ) → cellsBytes (blanks k) ≡ zeros (8 * k)
+pub blank-bytes : (k : ℕ) → cellsBytes (blanks k) ≡ zeros (8 * k)
 unfolding cellBytes
 blank-bytes zero = refl
 blank-bytes (suc k) =

@@ -2,14 +2,14 @@
 ghost use mathlib.Core.Path.{_≡_};
 ghost use mathlib.Core.Bool.{true, false};
 ghost use mathlib.Core.List.{_++_};
-ghost use Prim.Native.Nat.{_+_, _*_, _-_, _≤_};
+ghost use Prim.Native.Nat.{_+_, _*_, _-_, _<_, _≤_};
 ghost use lib.Dec.{eqb};
-ghost use lib.ListN.{length, take, drop};
+ghost use lib.ListN.{length, getD, take, drop};
 ghost use Rattle.p0_choice.specs.Choice.{pick};
-ghost use Rattle.p3_cells.specs.Cells.{limit, blanks, used, holding};
+ghost use Rattle.p3_cells.specs.Cells.{limit, blank, blanks, used, holding};
 ghost use Rattle.p6_bytes.specs.Bytes.{head, size, methodByte, modeByte, flagByte, cellBytes, cellsBytes, zeros, bytesOf, cellAt};
 ghost use Rattle.p6_bytes.specs.Bytes.{start, methodOf, modeOf, cellsAt, compositionOf, reservedZero, bytesSound};
-ghost use Rattle.p6_bytes.specs.Mirror.{cellFits, cellsFit, zeroFrom};
+ghost use Rattle.p6_bytes.specs.Mirror.{longAt, cellFits, cellsFit, zeroIn, zeroFrom, stored};
 use p2_input_method::InputMethod;
 use p3_cells as cells;
 use p3_cells::Cell;
@@ -22,6 +22,9 @@ pub const SIZE: usize = HEAD + 8 * cells::LIMIT;
 
 // The bytes of the head that say something; the others are reserved.
 const KNOWN: usize = 3;
+
+// How many bytes are tested for 0 at once.
+const BLOCK: usize = 128;
 
 // ---- reading
 
@@ -77,7 +80,62 @@ fn mode_of(x: u8) -> Mode
 
 // ---- soundness
 
-// The greater of two bytes. A loop of it has no way out, so that the search for a byte that is not 0 is done by vectors.
+// Eight bytes as one number: LLVM makes one load of it.
+fn eight(b0: u8, b1: u8, b2: u8, b3: u8, b4: u8, b5: u8, b6: u8, b7: u8) -> u64
+    ensures { λ r. ⌜ r ≡ b0 + b1 * 256 + b2 * 65536 + b3 * 16777216 + b4 * 4294967296 + b5 * 1099511627776 + b6 * 281474976710656
+        + b7 * 72057594037927936 ⌝ }
+{
+    let low = (b0 as u64) + (b1 as u64) * 256 + (b2 as u64) * 65536 + (b3 as u64) * 16777216;
+    let more = low + (b4 as u64) * 4294967296 + (b5 as u64) * 1099511627776;
+    more + (b6 as u64) * 281474976710656 + (b7 as u64) * 72057594037927936
+}
+
+// Whether the last five of eight bytes are 0: the number is below 256 to the third then.
+fn last_zero(b0: u8, b1: u8, b2: u8, b3: u8, b4: u8, b5: u8, b6: u8, b7: u8) -> bool
+    ensures { λ r. ⌜ r ≡ eqb (b3 + (b4 + (b5 + (b6 + b7)))) 0 ⌝ }
+{
+    eight(b0, b1, b2, b3, b4, b5, b6, b7) < 16777216
+}
+
+fn long_at(b: &[u8], at: usize) -> u64
+    requires { ⌜ at + 8 ≤ length (now b) ⌝ }
+    ensures { λ r. ⌜ r ≡ longAt (now (b .entry)) at ⌝ }
+{
+    eight(
+        b[at],
+        b[at + 1],
+        b[at + 2],
+        b[at + 3],
+        b[at + 4],
+        b[at + 5],
+        b[at + 6],
+        b[at + 7],
+    )
+}
+
+// 0 where both are. A loop of it, or of `greater`, has no way out, so that the search is done by vectors.
+fn either(a: u64, b: u64) -> u64
+    ensures { λ r. ⌜ eqb r 0 ≡ pick (eqb a 0) (eqb b 0) false ⌝ }
+{
+    a | b
+}
+
+// 0 where the 128 bytes from a place on are.
+fn block(b: &[u8], at: usize) -> u64
+    requires { ⌜ at + 128 ≤ length (now b) ⌝ }
+    ensures { λ r. ⌜ eqb r 0 ≡ zeroIn (now (b .entry)) 128 at ⌝ }
+{
+    let mut t: u64 = 0;
+    let mut j: usize = 0;
+    while j < 16 {
+        let w = long_at(b, at + 8 * j);
+        t = either(t, w);
+        j += 1;
+    }
+    t
+}
+
+// The greater of two bytes, by which a few bytes are searched.
 fn greater(a: u8, b: u8) -> u8
     ensures { λ r. ⌜ eqb r 0 ≡ pick (eqb a 0) (eqb b 0) false ⌝ }
 {
@@ -87,7 +145,7 @@ fn greater(a: u8, b: u8) -> u8
     a
 }
 
-fn zero_from(b: &[u8], at: usize) -> bool
+fn few_zero(b: &[u8], at: usize) -> bool
     requires { ⌜ at ≤ length (now b) ⌝ }
     ensures { λ r. ⌜ r ≡ zeroFrom (now (b .entry)) at ⌝ }
 {
@@ -100,14 +158,26 @@ fn zero_from(b: &[u8], at: usize) -> bool
     most == 0
 }
 
-// Whether the last five of eight bytes are 0: all are read as one number, which is below 256 to the third then. LLVM makes
-// one load and one comparison of it.
-fn last_zero(b0: u8, b1: u8, b2: u8, b3: u8, b4: u8, b5: u8, b6: u8, b7: u8) -> bool
-    ensures { λ r. ⌜ r ≡ eqb (b3 + (b4 + (b5 + (b6 + b7)))) 0 ⌝ }
+// By blocks. The last one is taken from the end, over bytes that were seen.
+fn zero_from(b: &[u8], at: usize) -> bool
+    requires { ⌜ at ≤ length (now b) ⌝ }
+    ensures { λ r. ⌜ r ≡ zeroFrom (now (b .entry)) at ⌝ }
 {
-    let low = (b0 as u64) + (b1 as u64) * 256 + (b2 as u64) * 65536 + (b3 as u64) * 16777216;
-    let more = low + (b4 as u64) * 4294967296 + (b5 as u64) * 1099511627776;
-    more + (b6 as u64) * 281474976710656 + (b7 as u64) * 72057594037927936 < 16777216
+    let n = b.len();
+    if n - at < BLOCK {
+        return few_zero(b, at);
+    }
+    let last = n - BLOCK;
+    let mut i = at;
+    while i < last {
+        let w = block(b, i);
+        if 0 < w {
+            return false;
+        }
+        i += BLOCK;
+    }
+    let w = block(b, last);
+    w == 0
 }
 
 // The bytes of the head from KNOWN on.
@@ -118,11 +188,15 @@ fn reserved_zero(b: &[u8]) -> bool
     last_zero(b[0], b[1], b[2], b[3], b[4], b[5], b[6], b[7])
 }
 
+// Most cells are an ASCII letter alone, which one comparison tells.
 fn cell_fits(b: &[u8], i: usize) -> bool
     requires { ⌜ (length (now b) ≡ size) × (i + 1 ≤ limit) ⌝ }
     ensures { λ r. ⌜ r ≡ cellFits (now (b .entry)) i ⌝ }
 {
     let at = HEAD + 8 * i;
+    if long_at(b, at) < 128 {
+        return true;
+    }
     if 1 < b[at + 7] {
         return false;
     }
@@ -288,7 +362,7 @@ fn put_cells(c: Composition, b: &mut [u8])
     }
 }
 
-fn put_zeros(b: &mut [u8], at: usize, end: usize)
+pub fn put_zeros(b: &mut [u8], at: usize, end: usize)
     requires { ⌜ (at ≤ end) × (end ≤ length (now b)) ⌝ }
     ensures { λ _. ⌜ now (b .exit) ≡ take at (now (b .entry)) ++ (zeros (end - at) ++ drop end (now (b .entry))) ⌝ }
 {
@@ -313,4 +387,20 @@ pub fn encode(c: Composition, b: &mut [u8])
     put_zeros(b, KNOWN, HEAD);
     put_cells(c, b);
     put_zeros(b, HEAD + 8 * n, SIZE);
+}
+
+// ---- the cells where they lie
+
+pub fn cell(b: &[u8], i: usize) -> Cell
+    requires { ⌜ (length (now b) ≡ size) × (i < limit) ⌝ }
+    ensures { λ r. ⌜ r ≡ getD (compositionOf (now (b .entry)) .cells) i blank ⌝ }
+{
+    cell_at(b, HEAD + 8 * i)
+}
+
+pub fn store(b: &mut [u8], i: usize, x: Cell)
+    requires { ⌜ (length (now b) ≡ size) × (i < limit) ⌝ }
+    ensures { λ _. ⌜ (length (now (b .exit)) ≡ size) × (now (b .exit) ≡ stored (now (b .entry)) i x) ⌝ }
+{
+    put_cell(b, HEAD + 8 * i, x);
 }

@@ -3,11 +3,10 @@ use Prim.Native.Nat.{ℕ, _<_, _≤_}
 use mathlib.Core.Path.{_≡_, refl, sym, ap, _∙_}
 use mathlib.Core.Bool.{Bool, true, false, not}
 use mathlib.Core.List.{List}
-use lib.Dec.{eqb}
 use lib.ListN.{length}
 use borrow.Author.Tests.{not-true, not-false, eq-eqb, ne-eqb, le-leb, lt-leb}
 use Rattle.p0_choice.specs.Choice.{pick}
-use Rattle.p0_refusals.specs.Answers.{Outcome, answer, output}
+use Rattle.p0_refusals.specs.Answers.{Outcome}
 use Rattle.p0_refusals.specs.declared.Answer.{Answer}
 use Rattle.p0_refusals.specs.declared.Answer.the-variants.{Done, Refused}
 use Rattle.p0_refusals.specs.declared.Refusal.the-variants.{Unsound}
@@ -16,19 +15,16 @@ use Rattle.p3_cells.specs.Cells.{isSound, used, holding}
 use Rattle.p3_cells.specs.declared.Composition.{Composition}
 use Rattle.p3_cells.proofs.Holding.{holding-used}
 use Rattle.p6_bytes.specs.Bytes.{size, bytesOf, compositionOf, methodOf, bytesSound}
-use Rattle.p6_bytes.proofs.Sound.{sound-size, sound-composition}
-use Rattle.p3_key.specs.Process.{keyOutcome, keyed}
-use Rattle.p3_calls.specs.Literal.{literal}
-use Rattle.p3_calls.specs.Output.{textOutcome, removalOutcome, removed}
-use Rattle.p3_calls.specs.Settings.{created, resetTo, methodSet, enabledSet}
+use Rattle.p6_bytes.proofs.Sound.{sound-size}
+use Rattle.p3_calls.specs.Settings.{created}
 use Rattle.p3_calls.proofs.Kept.{new-sound}
 use Rattle.p3_cells.specs.declared.After.{After}
 use Rattle.p3_undo.specs.Call.{undoTelex}
 use Rattle.p3_undo.specs.declared.Undone.{Undone}
 use Rattle.p6_composition.specs.UndoAnswer.{undoLeaving}
-use Rattle.p6_composition.specs.Calls.{answerOn, bytesAfter, bytesOn, outOn, keyOn, resetOn, literalOn, removalOn, undoOn, orUnsound}
+use Rattle.p6_composition.specs.Calls.{answerOn, bytesAfter, bytesOn, outOn, undoOn, orUnsound}
 use Rattle.p6_composition.specs.Calls.{methodOn, modeOn, textOn, newOn, newBytes}
-use Rattle.p6_composition.proofs.Kept.{key-step, reset-step, literal-step, removal-step, undo-step, method-step, mode-step}
+use Rattle.p6_composition.proofs.Kept.{undo-step}
 
 -- the test has let the bytes through
 pub ok-sound : (b : List ℕ) (v : Bool) → v ≡ bytesSound b → not v ≡ false → bytesSound b ≡ true
@@ -62,63 +58,9 @@ module _ (b out : List ℕ) (w : Outcome) (v : Bool) (e : v ≡ bytesSound b) wh
   unfolding outOn
   unsound-out t = rw (← e, not-true v t) refl
 
-  sound-out : (new : List ℕ) → not v ≡ false → new ≡ output w out → new ≡ outOn b w out
-  unfolding outOn
-  sound-out new t h = rw (← e, not-false v t) h
-
-module _ (b out new : List ℕ) (c : Composition) (v : Bool) (e : v ≡ bytesSound b) (t : not v ≡ false) (f : c ≡ compositionOf b) where
-  pub key-out : (l : ℕ) → new ≡ output (keyOutcome c l) out → new ≡ outOn b (keyOutcome (compositionOf b) l) out
-  key-out l h = sound-out b out _ v e new t (rw (← f) h)
-
-  pub removal-out : new ≡ output (removalOutcome c) out → new ≡ outOn b (removalOutcome (compositionOf b)) out
-  removal-out h = sound-out b out _ v e new t (rw (← f) h)
-
-  pub text-out : new ≡ output (textOutcome c) out → new ≡ outOn b (textOutcome (compositionOf b)) out
-  text-out h = sound-out b out _ v e new t (rw (← f) h)
-
 -- what a call leaves is sound, and so can be written: its cells past the count are blank
 ready : (p s : After) → p ≡ s → isSound (s .comp) ≡ true → p .comp ≡ holding (p .comp) (used (p .comp))
 ready p s e h = rw e (holding-used (s .comp) h)
-
--- ---- a key
-module _ (b : List ℕ) (c : Composition) (l : ℕ) (out : List ℕ) (p : After) (f : c ≡ compositionOf b) (g : p ≡ keyed c l (length out)) where
-  pub key-is : p ≡ keyOn b l out
-  unfolding keyOn
-  key-is = rw (g, f) refl
-
-  pub key-ready : (v : Bool) → v ≡ bytesSound b → not v ≡ false → p .comp ≡ holding (p .comp) (used (p .comp))
-  key-ready v e t = ready p (keyOn b l out) key-is (key-step b (ok-sound b v e t) l out)
-
--- the composition that it is given is sound
-pub ok-read : (b : List ℕ) (v : Bool) (c : Composition) → v ≡ bytesSound b → not v ≡ false → c ≡ compositionOf b → isSound c ≡ true
-ok-read b v c e t f = rw f (sound-composition b (ok-sound b v e t))
-
--- ---- the reset
-module _ (b : List ℕ) (c : Composition) (p : After) (f : c ≡ compositionOf b) (g : p ≡ resetTo c) where
-  pub reset-is : p ≡ resetOn b
-  unfolding resetOn
-  reset-is = rw (g, f) refl
-
-  pub reset-ready : (v : Bool) → v ≡ bytesSound b → not v ≡ false → p .comp ≡ holding (p .comp) (used (p .comp))
-  reset-ready v e t = ready p (resetOn b) reset-is (reset-step b (ok-sound b v e t))
-
--- ---- a literal
-module _ (b : List ℕ) (c : Composition) (l : ℕ) (p : After) (f : c ≡ compositionOf b) (g : p ≡ literal c l) where
-  pub literal-is : p ≡ literalOn b l
-  unfolding literalOn
-  literal-is = rw (g, f) refl
-
-  pub literal-ready : (v : Bool) → v ≡ bytesSound b → not v ≡ false → p .comp ≡ holding (p .comp) (used (p .comp))
-  literal-ready v e t = ready p (literalOn b l) literal-is (literal-step b (ok-sound b v e t) l)
-
--- ---- the removal
-module _ (b : List ℕ) (c : Composition) (out : List ℕ) (p : After) (f : c ≡ compositionOf b) (g : p ≡ removed c (length out)) where
-  pub removal-is : p ≡ removalOn b out
-  unfolding removalOn
-  removal-is = rw (g, f) refl
-
-  pub removal-ready : (v : Bool) → v ≡ bytesSound b → not v ≡ false → p .comp ≡ holding (p .comp) (used (p .comp))
-  removal-ready v e t = ready p (removalOn b out) removal-is (removal-step b (ok-sound b v e t) out)
 
 -- ---- undo
 module _ (b : List ℕ) (c : Composition) (l : ℕ) (raw : List ℕ) (k : Undone) (p : After) (f : c ≡ compositionOf b)
@@ -135,10 +77,6 @@ module _ (b : List ℕ) (n : ℕ) (v : Bool) (e : v ≡ bytesSound b) where
   pub unsound-text : not v ≡ true → Refused Unsound ≡ textOn b n
   unfolding textOn
   unsound-text t = rw (← e, not-true v t) refl
-
-  pub sound-text : (c : Composition) (r : Answer) → not v ≡ false → c ≡ compositionOf b → r ≡ answer (textOutcome c) n → r ≡ textOn b n
-  unfolding textOn
-  sound-text c r t f g = rw (← e, not-false v t, ← f) g
 
 -- ---- methods and modes by their numbers
 both-refuse : (s : Bool) → Refused Unsound ≡ pick s (Refused Unsound) (Refused Unsound)
@@ -169,23 +107,6 @@ module _ (b : List ℕ) (n : ℕ) (l : 1 < n) where
   pub no-mode-bytes : b ≡ bytesOn b (modeOn b n)
   unfolding modeOn
   no-mode-bytes = or-kept _
-
-module _ (b : List ℕ) (n : ℕ) (c : Composition) (p : After) (l : n ≤ 1) (f : c ≡ compositionOf b) where
-  module _ (m : InputMethod) (i : m ≡ methodOf n) (g : p ≡ methodSet c m) where
-    pub method-is : p ≡ methodOn b n
-    unfolding methodOn orUnsound
-    method-is = rw (le-leb n 1 l, g, i, f) refl
-
-    pub method-ready : (v : Bool) → v ≡ bytesSound b → not v ≡ false → p .comp ≡ holding (p .comp) (used (p .comp))
-    method-ready v e t = ready p (methodOn b n) method-is (method-step b (ok-sound b v e t) n)
-
-  module _ (g : p ≡ enabledSet c (eqb n 0)) where
-    pub mode-is : p ≡ modeOn b n
-    unfolding modeOn orUnsound
-    mode-is = rw (le-leb n 1 l, g, f) refl
-
-    pub mode-ready : (v : Bool) → v ≡ bytesSound b → not v ≡ false → p .comp ≡ holding (p .comp) (used (p .comp))
-    mode-ready v e t = ready p (modeOn b n) mode-is (mode-step b (ok-sound b v e t) n)
 
 -- ---- a new composition
 module _ (b : List ℕ) (n : ℕ) where

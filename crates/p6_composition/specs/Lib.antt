@@ -1,2 +1,3 @@
 pub mod UndoAnswer
 pub mod Calls
+pub mod Mirror

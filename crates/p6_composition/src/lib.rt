@@ -1,19 +1,34 @@
-// The calls on a composition given as bytes, which they find altered there. Each tests the bytes, reads the composition,
-// makes the call by value, and where that is done writes the composition back; after a refusal not a byte has changed.
+// The calls on a composition given as bytes, which they find altered there. Each tests the bytes once. Then cells are read
+// and stored where they lie, or the composition is read, the call made by value, and where that is done it is written back;
+// after a refusal not a byte has changed.
 ghost use mathlib.Core.Path.{_≡_};
-ghost use lib.ListN.{length};
+ghost use mathlib.Core.Bool.{true};
+ghost use mathlib.Core.List.{_++_};
+ghost use Prim.Native.Nat.{_<_, _≤_};
+ghost use lib.ListN.{length, take, drop};
 ghost use Rattle.p3_calls.specs.Output.{textOutcome, removalOutcome};
-ghost use Rattle.p3_cells.specs.Cells.{used, holding};
+ghost use Rattle.p3_cells.specs.Cells.{limit, used, holding};
+ghost use Rattle.p3_cells.specs.Mirror.{rowCells};
+ghost use Rattle.p3_cells.specs.Row.{bases};
+ghost use Rattle.p3_cells.specs.Text.{textOf};
+ghost use Rattle.p3_step.specs.Mirror.{stepOf};
 ghost use Rattle.p3_key.specs.Process.{keyOutcome};
-ghost use Rattle.p6_bytes.specs.Bytes.{size, compositionOf, methodOf};
+ghost use Rattle.p6_bytes.specs.Bytes.{size, compositionOf, methodOf, bytesSound};
+ghost use Rattle.p6_composition.specs.Mirror.{applied};
 ghost use Rattle.p6_composition.specs.UndoAnswer.{undoAnswer, undoLeaving};
 ghost use Rattle.p6_composition.specs.Calls.{answerOn, bytesAfter, bytesOn, outOn, keyOn, resetOn, literalOn, removalOn, undoOn};
 ghost use Rattle.p6_composition.specs.Calls.{methodOn, modeOn, textOn, newOn, newBytes};
 use p0_refusals::Answer;
 use p0_refusals::Refusal;
+use p1_letters as letters;
 use p2_input_method::InputMethod;
 use p3_calls as calls;
+use p3_cells as cells;
 use p3_cells::After;
+use p3_cells::LIMIT;
+use p3_step as step;
+use p3_step::Change;
+use p3_step::Step;
 use p3_undo::TelexUndo;
 use p3_undo::Undone;
 use p6_bytes as bytes;
@@ -55,6 +70,70 @@ fn finish(k: After, state: &mut [u8]) -> Answer
     }
 }
 
+// The text of the first n cells, from the start of an output that has room for it.
+fn text(b: &[u8], n: usize, out: &mut [u32])
+    requires { ⌜ (length (now b) ≡ size) × (n ≤ limit) × (n ≤ length (now out)) ⌝ }
+    ensures { λ _. ⌜ now (out .exit) ≡ textOf (take n (compositionOf (now (b .entry)) .cells)) ++ drop n (now (out .entry)) ⌝ }
+{
+    let mut i: usize = 0;
+    while i < n {
+        let x = bytes::cell(b, i);
+        out[i] = cells::shown(x);
+        i += 1;
+    }
+}
+
+// ---- a key
+
+// The bases of the first n cells, from the start of a row.
+fn fill(b: &[u8], n: usize, row: &mut [u32])
+    requires { ⌜ (length (now b) ≡ size) × (n ≤ limit) × (n ≤ length (now row)) ⌝ }
+    ensures { λ _. ⌜ take n (now (row .exit)) ≡ bases (take n (compositionOf (now (b .entry)) .cells)) ⌝ }
+{
+    let mut i: usize = 0;
+    while i < n {
+        let x = bytes::cell(b, i);
+        row[i] = x.base;
+        i += 1;
+    }
+}
+
+// The step of a key in lower case. For one that does not act there is no row.
+fn step_on(b: &[u8], m: InputMethod, k: u32, n: usize) -> Step
+    requires { ⌜ (bytesSound (now b) ≡ true) × (n ≡ compositionOf (now b) .count) × (n ≤ limit) ⌝ }
+    ensures { λ r. ⌜ r ≡ stepOf m (rowCells (bases (used (compositionOf (now (b .entry)))))) k ⌝ }
+{
+    if !p3_acts::acts(m, k) {
+        return Step {
+            change: Change::Append,
+            at: n,
+            also: n,
+            mark: 0,
+            count: n + 1,
+        };
+    }
+    let mut row = [0u32; LIMIT];
+    fill(b, n, &mut row);
+    step::first_step(m, &row[0..n], k)
+}
+
+// Stores the cells of a step, and the count.
+fn apply(b: &mut [u8], s: Step, key: u32, k: u32)
+    requires { ⌜ (length (now b) ≡ size) × (s .at < limit) × (s .also < limit) × (s .count ≤ limit) ⌝ }
+    ensures { λ _. ⌜ (length (now (b .exit)) ≡ size) × (now (b .exit) ≡ applied (now (b .entry)) s key k) ⌝ }
+{
+    let change = s.change;
+    let i = s.at;
+    let j = s.also;
+    let x = bytes::cell(b, i);
+    let y = bytes::cell(b, j);
+    let p = step::put_cell(change, s.mark, x, y, key, k);
+    let q = step::also_cell(change, p);
+    bytes::store(b, i, p);
+    bytes::store(b, j, q);
+    b[2] = s.count as u8;
+}
+
 pub fn process_key(state: &mut [u8], key: u32, out: &mut [u32]) -> Answer
     ensures { λ r. ⌜ (r ≡ answerOn (now (state .entry)) (keyOn (now (state .entry)) key (now (out .entry))))
         × (now (state .exit) ≡ bytesOn (now (state .entry)) (keyOn (now (state .entry)) key (now (out .entry))))
@@ -63,10 +142,33 @@ pub fn process_key(state: &mut [u8], key: u32, out: &mut [u32]) -> Answer
     if !bytes::bytes_ok(state) {
         return Answer::Refused(Refusal::Unsound);
     }
-    let c = bytes::decode(state);
-    let k = p3_key::process_sound_key(c, key, out);
-    finish(k, state)
+    if !letters::in_alphabet(key) {
+        return Answer::Refused(Refusal::Foreign);
+    }
+    let o = bytes::mode_number(state);
+    if o == 1 {
+        if out.len() < 1 {
+            return Answer::Refused(Refusal::Short);
+        }
+        out[0] = key;
+        return Answer::Done(1);
+    }
+    let m = method_of(bytes::method_number(state));
+    let k = letters::ascii_lower(key);
+    let s = step_on(state, m, k, bytes::cell_count(state));
+    let count = s.count;
+    if LIMIT < count {
+        return Answer::Refused(Refusal::Full);
+    }
+    if out.len() < count {
+        return Answer::Refused(Refusal::Short);
+    }
+    apply(state, s, key, k);
+    text(state, count, out);
+    Answer::Done(count)
 }
+
+// ---- the other calls
 
 pub fn reset(state: &mut [u8]) -> Answer
     ensures { λ r. ⌜ (r ≡ answerOn (now (state .entry)) (resetOn (now (state .entry))))
@@ -75,9 +177,8 @@ pub fn reset(state: &mut [u8]) -> Answer
     if !bytes::bytes_ok(state) {
         return Answer::Refused(Refusal::Unsound);
     }
-    let c = bytes::decode(state);
-    let k = calls::reset(c);
-    finish(k, state)
+    bytes::put_zeros(state, 2, bytes::SIZE);
+    Answer::Done(0)
 }
 
 pub fn append_literal(state: &mut [u8], letter: u32) -> Answer
@@ -87,9 +188,17 @@ pub fn append_literal(state: &mut [u8], letter: u32) -> Answer
     if !bytes::bytes_ok(state) {
         return Answer::Refused(Refusal::Unsound);
     }
-    let c = bytes::decode(state);
-    let k = calls::append_literal(c, letter);
-    finish(k, state)
+    if !letters::in_alphabet(letter) {
+        return Answer::Refused(Refusal::Foreign);
+    }
+    let n = bytes::cell_count(state);
+    if LIMIT <= n {
+        return Answer::Refused(Refusal::Full);
+    }
+    let x = cells::typed(letter);
+    bytes::store(state, n, x);
+    state[2] = (n + 1) as u8;
+    Answer::Done(0)
 }
 
 pub fn pop_last(state: &mut [u8], out: &mut [u32]) -> Answer
@@ -100,9 +209,19 @@ pub fn pop_last(state: &mut [u8], out: &mut [u32]) -> Answer
     if !bytes::bytes_ok(state) {
         return Answer::Refused(Refusal::Unsound);
     }
-    let c = bytes::decode(state);
-    let k = calls::pop_last(c, out);
-    finish(k, state)
+    let n = bytes::cell_count(state);
+    if n == 0 {
+        return Answer::Refused(Refusal::Empty);
+    }
+    let m = n - 1;
+    if out.len() < m {
+        return Answer::Refused(Refusal::Short);
+    }
+    let z = cells::blank();
+    bytes::store(state, m, z);
+    state[2] = m as u8;
+    text(state, m, out);
+    Answer::Done(m)
 }
 
 pub fn undo_telex_transform(state: &mut [u8], trigger: u32, raw: &[u32]) -> Answer
@@ -125,8 +244,12 @@ pub fn get_output(state: &[u8], out: &mut [u32]) -> Answer
     if !bytes::bytes_ok(state) {
         return Answer::Refused(Refusal::Unsound);
     }
-    let c = bytes::decode(state);
-    calls::get_output(c, out)
+    let n = bytes::cell_count(state);
+    if out.len() < n {
+        return Answer::Refused(Refusal::Short);
+    }
+    text(state, n, out);
+    Answer::Done(n)
 }
 
 // ---- methods and modes by their numbers
@@ -150,10 +273,9 @@ pub fn set_method(state: &mut [u8], method: u32) -> Answer
     if 1 < method {
         return Answer::Refused(Refusal::Unsound);
     }
-    let m = method_of(method);
-    let c = bytes::decode(state);
-    let k = calls::set_method(c, m);
-    finish(k, state)
+    state[0] = method as u8;
+    bytes::put_zeros(state, 2, bytes::SIZE);
+    Answer::Done(0)
 }
 
 pub fn set_mode(state: &mut [u8], mode: u32) -> Answer
@@ -166,9 +288,12 @@ pub fn set_mode(state: &mut [u8], mode: u32) -> Answer
     if 1 < mode {
         return Answer::Refused(Refusal::Unsound);
     }
-    let c = bytes::decode(state);
-    let k = calls::set_enabled(c, mode == 0);
-    finish(k, state)
+    state[1] = mode as u8;
+    if mode == 0 {
+        return Answer::Done(0);
+    }
+    bytes::put_zeros(state, 2, bytes::SIZE);
+    Answer::Done(0)
 }
 
 // An empty Vietnamese composition, whatever the bytes were.

@@ -1,27 +1,31 @@
+use mathlib.Core.Path.{refl, ap, _∙_}
+use native.Mathlib.Omega.{arith}
 use borrow.Author.Needs.{needs}
-use mathlib.Core.Path.{refl}
-use Rattle.p5_lister.proofs.Answers.{beyond, short, done}
+use lib.ListN.{take}
+use Rattle.p5_trie.specs.Mirror.{Trie, nth}
+use Rattle.p5_listing.proofs.Computed.{size-listing}
+use Rattle.p5_listing.proofs.Nodes.{root}
+use Rattle.p5_listing.proofs.Numbering.{lists}
+use Rattle.p5_lister.proofs.Reading.{root-size, root-depth}
+use Rattle.p5_lister.proofs.Answers.{beyond, numbered}
 use Rattle.p5_lister.proofs.word_number.Statement.{statement}
 use Rattle.p5_lister.proofs.word_number.Tie as tie
 
 ruleset answers = (needs, refl)
 
 returns : tie.Need-returns
-returns c = beyond (c .before .before .args .n) _ (search answers) _ _ (search answers) (search answers)
+returns c =
+    beyond lists _ _ _ (c .before .before .args .n) (omega (arith, c .if1 .taken, size-listing)) (search answers) (search answers)
+
+spell-requires : tie.Need-spell-requires
+spell-requires c κs = (omega arith, omega (arith, c .if1 .left, root-size), omega (arith, root-depth))
 
 returns-2 : tie.Need-returns-2
 returns-2 c =
-    let w : tie.After-word-at = c .before .before in
-    short _ _ (w .word-at .result .len) (w .word-at .result .letters) (search answers) (search answers) (search answers) (search answers)
-    (search answers) _ _ (search answers) (search answers)
-
-returns-3 : tie.Need-returns-3
-returns-3 c =
-    let w : tie.After-word-at = c .before .before .before .before .before .before in
-    done _ _ (w .word-at .result .len) (w .word-at .result .letters) (search answers) (search answers) (search answers) (search answers)
-    (search answers) _ _ (search answers) (search answers)
+    let w : tie.After-spell = c .before .before .before .before in
+    let n = w .before .before .before .args .n in
+    numbered lists _ _ _ n (omega (arith, w .before .if1 .left, size-listing)) (take (w .spell .result .len) (w .spell .result .letters))
+    (w .spell .ensures .1 ∙ ap (λ (t : Trie). nth t n) root) (search answers) (search answers)
 
 pub word-number-spec : {M : Type 1} → statement M
-word-number-spec =
-    tie.close
-    (tie.spec returns (λ c κs. search needs) returns-2 (λ c κs. search needs) (λ c. search needs) returns-3)
+word-number-spec = tie.close (tie.spec returns spell-requires (λ c κs. search needs) (λ c. search needs) returns-2)

@@ -1,5 +1,5 @@
 use borrow.Author.Needs.{needs}
-use Rattle.p6_bytes.proofs.Tests.{greater-right, greater-left}
+use Rattle.p6_bytes.proofs.Zeros.{greater-right, greater-left}
 use Rattle.p6_bytes.proofs.greater.Statement.{statement}
 use Rattle.p6_bytes.proofs.greater.Tie as tie
 

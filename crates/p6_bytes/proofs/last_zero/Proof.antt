@@ -9,6 +9,4 @@ pub last-zero-spec : {M : Type 1} → statement M
 last-zero-spec =
     tie.close
     (tie.spec
-    (λ c. search answers) (λ c. search answers) (λ c. search answers) (λ c. search answers) (λ c. search answers) (λ c. search answers)
-    (λ c. search answers) (λ c. search answers) (λ c. search answers) (λ c. search answers) (λ c. search answers) (λ c. search answers)
-    (λ c. search answers) (λ c. search answers) (λ c. search answers))
+    (λ c κs. search answers) (λ c. search answers))

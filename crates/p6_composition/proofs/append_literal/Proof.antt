@@ -1,14 +1,16 @@
 use borrow.Author.Needs.{needs}
-use Rattle.p6_composition.proofs.Calls.{ok-sound, ok-size, unsound-answer, unsound-bytes, sound-answer, sound-bytes, literal-is}
-use Rattle.p6_composition.proofs.Calls.{literal-ready}
+use Rattle.p6_composition.proofs.Calls.{ok-sound, ok-size, unsound-answer, unsound-bytes}
+use Rattle.p6_composition.proofs.InPlace.{few, set-length, literals}
 use Rattle.p6_composition.proofs.append_literal.Statement.{statement}
 use Rattle.p6_composition.proofs.append_literal.Tie as tie
 
-ruleset answers = (needs, ok-sound, ok-size, unsound-answer, unsound-bytes, sound-answer, sound-bytes, literal-is, literal-ready)
+ruleset answers = (needs, ok-sound, ok-size, unsound-answer, unsound-bytes, few, set-length, literals)
 
 pub append-literal-spec : {M : Type 1} → statement M
 append-literal-spec =
     tie.close
     (tie.spec
-    (λ c κs. search answers) (λ c. search answers) (λ c. search answers) (λ c κs. search answers) (λ c κs. search answers)
-    (λ c κs. search answers) (λ c. search answers) (λ c. search answers))
+    (λ c κs. search answers) (λ c. search answers) (λ c. search answers) (λ c κs. search answers) (λ c. search answers)
+    (λ c. search answers) (λ c κs. search answers) (λ c. search answers) (λ c. search answers) (λ c κs. search answers)
+    (λ c κs. search answers) (λ c. search answers) (λ c. search answers) (λ c. search answers) (λ c. search answers)
+    (λ c. search answers))

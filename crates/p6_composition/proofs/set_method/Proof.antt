@@ -1,21 +1,23 @@
 use borrow.Author.Needs.{needs}
-use Rattle.p6_composition.proofs.Calls.{ok-sound, ok-size, unsound-answer, unsound-bytes, sound-answer, sound-bytes, no-method}
-use Rattle.p6_composition.proofs.Calls.{no-method-bytes, method-is, method-ready}
+use Rattle.p6_bytes.proofs.Sound.{byte-there}
+use Rattle.p6_composition.proofs.Calls.{ok-sound, ok-size, unsound-answer, unsound-bytes, no-method, no-method-bytes}
+use Rattle.p6_composition.proofs.InPlace.{set-room, set-length, method-told, method-cleared}
 use Rattle.p6_composition.proofs.set_method.Statement.{statement}
 use Rattle.p6_composition.proofs.set_method.Tie as tie
 
 ruleset answers = (
   needs,
+  byte-there,
   ok-sound,
   ok-size,
   unsound-answer,
   unsound-bytes,
-  sound-answer,
-  sound-bytes,
   no-method,
   no-method-bytes,
-  method-is,
-  method-ready,
+  set-room,
+  set-length,
+  method-told,
+  method-cleared,
 )
 
 pub set-method-spec : {M : Type 1} → statement M
@@ -23,5 +25,4 @@ set-method-spec =
     tie.close
     (tie.spec
     (λ c κs. search answers) (λ c. search answers) (λ c. search answers) (λ c. search answers) (λ c. search answers)
-    (λ c κs. search answers) (λ c κs. search answers) (λ c κs. search answers) (λ c κs. search answers) (λ c. search answers)
-    (λ c. search answers))
+    (λ c. search answers) (λ c. search answers) (λ c κs. search answers) (λ c. search answers) (λ c. search answers))

@@ -1,15 +1,17 @@
 use borrow.Author.Needs.{needs}
-use Rattle.p6_composition.proofs.Calls.{ok-sound, ok-size, unsound-answer, unsound-bytes, sound-answer, sound-bytes, no-mode}
-use Rattle.p6_composition.proofs.Calls.{no-mode-bytes, mode-is, mode-ready}
+use Rattle.p6_bytes.proofs.Sound.{byte-there}
+use Rattle.p6_composition.proofs.Calls.{ok-sound, ok-size, unsound-answer, unsound-bytes, no-mode, no-mode-bytes}
+use Rattle.p6_composition.proofs.InPlace.{set-room, set-length, modes}
 use Rattle.p6_composition.proofs.set_mode.Statement.{statement}
 use Rattle.p6_composition.proofs.set_mode.Tie as tie
 
 ruleset answers =
-    (needs, ok-sound, ok-size, unsound-answer, unsound-bytes, sound-answer, sound-bytes, no-mode, no-mode-bytes, mode-is, mode-ready)
+    (needs, byte-there, ok-sound, ok-size, unsound-answer, unsound-bytes, no-mode, no-mode-bytes, set-room, set-length, modes)
 
 pub set-mode-spec : {M : Type 1} → statement M
 set-mode-spec =
     tie.close
     (tie.spec
     (λ c κs. search answers) (λ c. search answers) (λ c. search answers) (λ c. search answers) (λ c. search answers)
-    (λ c κs. search answers) (λ c κs. search answers) (λ c κs. search answers) (λ c. search answers) (λ c. search answers))
+    (λ c. search answers) (λ c. search answers) (λ c. search answers) (λ c. search answers) (λ c κs. search answers)
+    (λ c. search answers) (λ c. search answers))
