@@ -52,8 +52,8 @@ unfolding vowelPlaces seenOf
 vowels-none row = rw (past row (length row) (omega arith)) refl
 
 -- with one more before them
-nth-last : (n i : ℕ) (vs : List ℕ) → 0 < n → pick (ltb (length vs) n) i (getD vs (length vs - n) 0) ≡ getD (i ∷ vs) (suc (length vs) - n) 0
-nth-last n i vs h = go (ltb (length vs) n) refl
+last-of : (n i : ℕ) (vs : List ℕ) → 0 < n → pick (ltb (length vs) n) i (getD vs (length vs - n) 0) ≡ getD (i ∷ vs) (suc (length vs) - n) 0
+last-of n i vs h = go (ltb (length vs) n) refl
   where
     go : (b : Bool) → ltb (length vs) n ≡ b → pick b i (getD vs (length vs - n) 0) ≡ getD (i ∷ vs) (suc (length vs) - n) 0
     go true e = let l = ltb-true (length vs) n e in let d : suc (length vs) - n ≡ 0 = omega arith in rw d refl
@@ -64,7 +64,7 @@ with-first : (vs : List ℕ) (i b l : ℕ) → b ≡ pick (ltb (length vs) 2) i 
     → record { count = length vs + 1; first = i; second = getD vs 0 0; third = getD vs 1 0; before = b; last = l } ≡ seenOf (i ∷ vs)
 unfolding seenOf
 with-first vs i b l p q =
-    rw (p ∙ nth-last 2 i vs (omega arith), q ∙ nth-last 1 i vs (omega arith), add-one (length vs)) refl
+    rw (p ∙ last-of 2 i vs (omega arith), q ∙ last-of 1 i vs (omega arith), add-one (length vs)) refl
 
 module _ (row : List ℕ) (i : ℕ) (v : Seen) (h : 0 < i) (l : i ≤ length row)
     (e : v ≡ seenOf (vowelPlaces i (drop i (rowCells row)))) (w : Bool) (q : w ≡ isVowel (getD row (i - 1) 0)) where

@@ -1,10 +1,10 @@
 // The cell that takes a tone (bamboo.rs: last_syllable_range, find_tone_position), over a lent row of bases: on sound
 // cells a letter is its base, so that one row serves vowels, separators and bases.
 ghost use mathlib.Core.Path.{_≡_};
+ghost use mathlib.Core.Bool.{false};
 ghost use Prim.Native.Nat.{_+_, _<_, _≤_};
 ghost use lib.Dec.{eqb, ltb};
 ghost use lib.ListN.{length, getD, drop};
-ghost use mathlib.Core.Bool.{false};
 ghost use Rattle.p0_choice.specs.Choice.{pick};
 ghost use Rattle.p3_cells.specs.Cells.{blank};
 ghost use Rattle.p3_cells.specs.Mirror.{rowCells};
@@ -14,7 +14,8 @@ ghost use Rattle.p3_tone.specs.Mirror.{seenOf};
 use p1_letters as letters;
 use p3_cells::Place;
 
-// Of a syllable's vowels how many there are, and the places of the first three, of the last but one and of the last.
+// What the choice asks of a syllable's vowels: how many there are, and the places of the first three and of the last two. With
+// numbers alone there is no array of places on the stack.
 struct Seen {
     count: usize,
     first: usize,
@@ -24,6 +25,7 @@ struct Seen {
     last: usize,
 }
 
+// The last syllable: where it starts, and its vowels.
 struct Scanned {
     start: usize,
     vowels: Seen,
@@ -42,8 +44,8 @@ fn any_vowel(row: &[u32]) -> bool
     false
 }
 
-// Going back, a vowel at a place is one of the last n as long as fewer were found.
-fn among_last(count: usize, n: usize, place: usize, found: usize) -> usize
+// The nth from the end, once a vowel more was found before the others: that one, as long as there were fewer than n.
+fn nth_last(count: usize, n: usize, place: usize, found: usize) -> usize
     ensures { λ r. ⌜ r ≡ pick (ltb count n) place found ⌝ }
 {
     if count < n {
@@ -52,7 +54,7 @@ fn among_last(count: usize, n: usize, place: usize, found: usize) -> usize
     found
 }
 
-// From the end of the row back: each vowel found is the first, and the first becomes the second.
+// One pass, from the end of the row back: each vowel found is the first, and what was the first is the second.
 fn last_syllable(row: &[u32]) -> Scanned
     ensures { λ r. ⌜ (r .start ≡ syllableStart (rowCells (now (row .entry)))) × (r .start ≤ length (now (row .entry)))
         × (r .vowels ≡ seenOf (vowelPlaces (r .start) (drop (r .start) (rowCells (now (row .entry)))))) ⌝ }
@@ -77,8 +79,8 @@ fn last_syllable(row: &[u32]) -> Scanned
         if !letters::is_vowel(row[i]) {
             continue;
         }
-        let before = among_last(v.count, 2, i, v.before);
-        let last = among_last(v.count, 1, i, v.last);
+        let before = nth_last(v.count, 2, i, v.before);
+        let last = nth_last(v.count, 1, i, v.last);
         let more = Seen {
             count: v.count + 1,
             first: i,
