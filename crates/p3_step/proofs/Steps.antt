@@ -1,20 +1,17 @@
 -- The step of a key, as the code comes to it: f is the place that was found.
 use Prim.Native.Nat.{ℕ, suc, _+_, _^_, _<_, _≤_}
 use mathlib.Core.Path.{_≡_, refl, sym, _∙_}
-use mathlib.Core.Bool.{Bool, true, false, not}
+use mathlib.Core.Bool.{Bool, true, false}
 use mathlib.Core.List.{List}
 use native.Mathlib.Omega.{arith}
 use lib.ListN.{length, getD}
-use borrow.Author.Tests.{not-false}
 use Rattle.p0_choice.specs.Choice.{pick}
 use Rattle.p1_letters.specs.Alphabet.{asciiLower}
-use Rattle.p2_input_method.specs.Rules.{isToneKey, isHornKey, markFor}
+use Rattle.p2_input_method.specs.Rules.{isHornKey, markFor}
 use Rattle.p2_input_method.specs.declared.InputMethod.{InputMethod}
 use Rattle.p3_cells.specs.Cells.{limit}
 use Rattle.p3_cells.specs.Mirror.{rowCells}
 use Rattle.p3_cells.proofs.Row.{row-length}
-use Rattle.p3_tone.specs.TonePlace.{anyVowel, tonePlace}
-use Rattle.p3_tone.proofs.Bound.{vowel-some}
 use Rattle.p3_marks.specs.Uo.{uoPlace}
 use Rattle.p3_marks.specs.Mark.{markPlace}
 use Rattle.p3_cells.specs.declared.Place.{Place}
@@ -85,12 +82,3 @@ module _ (m : InputMethod) (row : List ℕ) (k : ℕ) (f : Place) where
     pub tone-none : (s : Step) → f ≡ Nowhere → s ≡ uoStep m (rowCells row) k → s ≡ stepOf m (rowCells row) k
     unfolding stepOf
     tone-none s q p = rw (← e, q) p
-
-pub row-some : (row : List ℕ) (v : Bool) → v ≡ anyVowel (rowCells row) → not v ≡ false → 0 < length row
-row-some row v e t = rw (row-length row) at (vowel-some (rowCells row) (sym e ∙ not-false v t))
-
-pub tone-at : (m : InputMethod) (row : List ℕ) (k : ℕ) (u v : Bool) (i : ℕ) → u ≡ isToneKey m k → not u ≡ false
-    → v ≡ anyVowel (rowCells row) → not v ≡ false → i ≡ tonePlace (rowCells row)
-    → At i ≡ toneFor m (rowCells row) k
-unfolding toneFor
-tone-at m row k u v i e t f s h = rw (← e, not-false u t, ← f, not-false v s, h) refl

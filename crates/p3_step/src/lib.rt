@@ -116,17 +116,12 @@ fn uo_step(m: InputMethod, row: &[u32], k: u32) -> Step
 }
 
 fn tone_place(m: InputMethod, row: &[u32], k: u32) -> Place
-    requires { ⌜ length (now row) ≤ limit ⌝ }
     ensures { λ r. ⌜ r ≡ toneFor m (rowCells (now (row .entry))) k ⌝ }
 {
     if !input_method::is_tone_key(m, k) {
         return Place::Nowhere;
     }
-    if !place::any_vowel(row) {
-        return Place::Nowhere;
-    }
-    let i = place::find_tone_position(row);
-    Place::At(i)
+    place::find_tone_position(row)
 }
 
 pub fn first_step(m: InputMethod, row: &[u32], k: u32) -> Step
