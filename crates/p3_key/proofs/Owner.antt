@@ -17,7 +17,8 @@ use Rattle.p3_cells.proofs.SoundTest.{fitsFrom}
 use Rattle.p3_cells.specs.Row.{bases}
 use Rattle.p3_cells.specs.Mirror.{rowCells}
 use Rattle.p3_cells.proofs.Fill.{Filled, filled}
-use Rattle.p3_step.specs.Mirror.{putCell, alsoCell}
+use Rattle.p3_step.specs.Mirror.{put, alsoPut}
+use Rattle.p3_step.proofs.Makes.{stepped}
 use Rattle.p3_key.specs.Process.{keyOutcome, keyed}
 use Rattle.p3_key.specs.Mirror.{soundBy, letterFor, strokeOf}
 use Rattle.p3_key.specs.declared.Stroke.{Stroke}
@@ -60,13 +61,13 @@ stroke-known c key o b trusted s t i j u e n f l p q h g k m r =
     go false z = unsound (rowCells (take (u - 0) (drop 0 b))) (rowCells (bases (used c))) c key (length o)
 
 -- ---- the text of the array after the two stores
-pub letters-stored : (m : Mode) (key : ℕ) (cells : List Cell) (at also : ℕ) (p q : Cell) (o out : List ℕ) (j v w : ℕ) → length cells ≡ limit
-    → out ≡ lettersTo m key (set (set cells at p) also q) j o → v ≡ letterFor m key (getD (set (set cells at p) also q) j blank) → j < w
+pub letters-stored : (m : Mode) (key : ℕ) (cells : List Cell) (also at : ℕ) (q p : Cell) (o out : List ℕ) (j v w : ℕ) → length cells ≡ limit
+    → out ≡ lettersTo m key (set (set cells also q) at p) j o → v ≡ letterFor m key (getD (set (set cells also q) at p) j blank) → j < w
     → w ≤ limit → w ≤ length o
-    → set out j v ≡ lettersTo m key (set (set cells at p) also q) (j + 1) o
-letters-stored m key cells at also p q o out j v w n e f h l r =
-    letters-more m key (set (set cells at p) also q) o out j v e f
-    (rw (length-set (set cells at p) also q, length-set cells at p, n) (omega arith)) (omega arith)
+    → set out j v ≡ lettersTo m key (set (set cells also q) at p) (j + 1) o
+letters-stored m key cells also at q p o out j v w n e f h l r =
+    letters-more m key (set (set cells also q) at p) o out j v e f
+    (rw (length-set (set cells also q) at p, length-set cells also q, n) (omega arith)) (omega arith)
 
 -- ---- the return; the row is what was lent
 pub owner-right : (c : Composition) (key : ℕ) (o out b row : List ℕ) (trusted s : Bool) (t i j u k r : ℕ) (e : Stroke) (p q : Cell)
@@ -74,15 +75,19 @@ pub owner-right : (c : Composition) (key : ℕ) (o out b row : List ℕ) (truste
     → (trusted ≡ true → isSound c ≡ true) → s ≡ soundBy trusted (c .count) t
     → u ≡ min (c .count) limit → Filled (c .cells) b j → j ≤ u → u ≤ j
     → row ≡ take (u - 0) (drop 0 b) → e ≡ strokeOf s (c .method) (c .mode) (rowCells row) key (c .count) (length o)
-    → k ≡ asciiLower key → p ≡ putCell (e .change) (e .mark) (getD (c .cells) (e .at) blank) (getD (c .cells) (e .also) blank) key k
-    → q ≡ alsoCell (e .change) p
-    → out ≡ lettersTo (c .mode) key (set (set (c .cells) (e .at) p) (e .also) q) r o → r ≤ e .letters → e .letters ≤ r
+    → k ≡ asciiLower key → p ≡ put (e .step) (c .cells) key k → q ≡ alsoPut (e .step) (c .cells)
+    → out ≡ lettersTo (c .mode) key (set (set (c .cells) (e .step .also) q) (e .step .at) p) r o → r ≤ e .letters → e .letters ≤ r
     → (record {
-      comp = record { cells = set (set (c .cells) (e .at) p) (e .also) q; method = c .method; mode = c .mode; count = e .count };
+      comp = record {
+        cells = set (set (c .cells) (e .step .also) q) (e .step .at) p;
+        method = c .method;
+        mode = c .mode;
+        count = e .step .count;
+      };
       answer = e .answer;
     } ≡ keyed c key (length o))
     × (out ≡ output (keyOutcome c key) o)
-unfolding keyed leaving stroked
+unfolding keyed leaving stroked stepped
 owner-right c key o out b row trusted s t i j u k r e p q n f l z y h g a d v′ w x m m′ y′ r′ r″ =
     let d′ : r ≡ e .letters = omega arith in
     let known = stroke-known c key o b trusted s t i j u e n f l z y h g a d (rw v′ at w) in

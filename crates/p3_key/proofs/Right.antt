@@ -6,14 +6,14 @@ use mathlib.Core.Bool.{Bool, true, false}
 use mathlib.Core.List.{List, [], _∷_, _++_, map}
 use native.Mathlib.Omega.{arith}
 use lib.Dec.{ltb}
-use lib.ListN.{length, getD, take, drop, set, length-map}
-use lib.Seq.{set-getD, take-append-seam}
+use lib.ListN.{length, take, drop, length-map}
+use lib.Seq.{take-append-seam}
 use borrow.Author.Tests.{ltb-true, ltb-false}
 use Rattle.p0_choice.specs.Choice.{pick}
 use Rattle.p0_refusals.specs.declared.Refusal.{Refusal}
 use Rattle.p0_refusals.specs.declared.Refusal.the-variants.{Foreign, Full, Short, Unsound}
 use Rattle.p1_letters.specs.Alphabet.{inAlphabet, asciiLower}
-use Rattle.p3_cells.specs.Cells.{limit, blank, blanks, isSound, used, holding}
+use Rattle.p3_cells.specs.Cells.{limit, blanks, isSound, used, holding}
 use Rattle.p3_cells.specs.Text.{shown, textOf}
 use Rattle.p0_refusals.specs.Answers.{writes, refuses, answer, onto, output}
 use Rattle.p0_refusals.proofs.Answers.{refuses-answer, short-answer, writes-answer, writes-output}
@@ -28,28 +28,23 @@ use Rattle.p3_cells.proofs.Soundness.{sound-length}
 use Rattle.p3_cells.specs.Row.{bases}
 use Rattle.p3_cells.specs.Mirror.{rowCells}
 use Rattle.p3_step.specs.Key.{keyCells}
-use Rattle.p3_step.specs.Mirror.{stepOf, putCell, alsoCell}
-use Rattle.p3_step.specs.declared.Change.the-variants.{Nothing}
+use Rattle.p3_step.specs.Mirror.{stepOf}
 use Rattle.p3_step.specs.declared.Step.{Step}
-use Rattle.p3_step.proofs.Makes.{stored, Makes, step-makes}
+use Rattle.p3_step.proofs.Makes.{stepped, still-same, Makes, step-makes}
 use Rattle.p3_step.proofs.Same.{step-same}
 use Rattle.p3_key.specs.Process.{inMode, nextCells, writtenFor, isFull, keyOutcome, keyNext, keyed}
-use Rattle.p3_key.specs.Mirror.{letterFor, noStroke, stepStroke, passStroke, strokeOf}
+use Rattle.p3_key.specs.Mirror.{letterFor, noStroke, wrote, wroteKey, stepStroke, passStroke, strokeOf}
 use Rattle.p3_key.specs.declared.Stroke.{Stroke}
 use Rattle.p3_key.proofs.Letters.{lettersTo}
 
 -- ---- what a stroke leaves
-abbrev pub putStroke : Stroke → List Cell → ℕ → Cell
-putStroke e cells key = putCell (e .change) (e .mark) (getD cells (e .at) blank) (getD cells (e .also) blank) key (asciiLower key)
-
 unfoldable pub stroked : Composition → Stroke → ℕ → Composition
 stroked c e key =
     record {
-      cells = set (set (c .cells) (e .at) (putStroke e (c .cells) key)) (e .also)
-          (alsoCell (e .change) (putStroke e (c .cells) key));
+      cells = stepped (e .step) (c .cells) key (asciiLower key);
       method = c .method;
       mode = c .mode;
-      count = e .count;
+      count = e .step .count;
     }
 
 pub record Right (c : Composition) (key : ℕ) (o : List ℕ) (e : Stroke) : Type 0 where
@@ -78,15 +73,12 @@ module _ (c : Composition) (key : ℕ) where
       outcome-writes f = rw (s, a, f) refl
 
 -- ---- nothing changes
-same-cells : (c : Composition) → set (set (c .cells) 0 (getD (c .cells) 0 blank)) 0 (getD (c .cells) 0 blank) ≡ c .cells
-same-cells c = rw (set-getD (c .cells) 0 blank) (set-getD (c .cells) 0 blank)
-
 kept-right : (c : Composition) (key : ℕ) (o : List ℕ) (r : Refusal) → Refused r ≡ answer (keyOutcome c key) (length o)
     → Right c key o (noStroke r (c .count))
-unfolding stroked putCell alsoCell lettersTo keyed leaving output
+unfolding stroked lettersTo keyed leaving output
 kept-right c key o r e =
     record {
-      comp = rw (same-cells c, ← e) refl;
+      comp = rw (still-same (c .cells) (c .count) key (asciiLower key), ← e) refl;
       told = e;
       out = rw (← e) refl;
     }
@@ -120,30 +112,17 @@ one-letter key (x ∷ xs) h = refl
 
 pass-right : (c : Composition) (key : ℕ) (o : List ℕ) → 0 < length (c .cells) → c .mode ≡ English
     → keyOutcome c key ≡ writes (writtenFor c key) → length (writtenFor c key) ≤ length o
-    → length (writtenFor c key) ≡ 1
-    → Right c key o (record { change = Nothing; at = 0; also = 0; mark = 0; count = c .count; letters = 1; answer = Done 1 })
-unfolding stroked putCell alsoCell lettersTo keyNext writtenFor
+    → length (writtenFor c key) ≡ 1 → Right c key o (wroteKey (c .count))
+unfolding stroked lettersTo keyNext writtenFor
 pass-right c key o h m q l e =
+    let same = still-same (c .cells) (c .count) key (asciiLower key) in
     record {
-      comp = rw (comp-written c key o q l, same-cells c, m) refl;
+      comp = rw (comp-written c key o q l, same, m) refl;
       told = told-written c key o q l 1 (sym e);
-      out = rw (out-written c key o q l, same-cells c, m, one-letter key (c .cells) h) refl;
+      out = rw (out-written c key o q l, same, m, one-letter key (c .cells) h) refl;
     }
 
 -- ---- Vietnamese: the step's cells
-abbrev wrote : Step → Stroke
-wrote s =
-    record {
-      change = s .change;
-      at = s .at;
-      also = s .also;
-      mark = s .mark;
-      count = s .count;
-      letters = s .count;
-      answer = Done
-          (s .count);
-    }
-
 blanks-less : (n k : ℕ) → drop k (blanks n) ≡ blanks (n - k)
 blanks-less n zero = let d : n - 0 ≡ n = omega arith in rw d refl
 blanks-less zero (suc k) = let d : 0 - suc k ≡ 0 = omega arith in rw d refl
@@ -154,20 +133,20 @@ module _ (c : Composition) (s : isSound c ≡ true) where
   parted = ap (λ (d : Composition). d .cells) (holding-used c s) ∙ cells-held c (used c)
 
   module _ (xs : List Cell) (key : ℕ) (t : Step) (h : Makes t (used c) xs key (asciiLower key)) (l : length xs ≤ limit) where
-    step-cells : stored t (c .cells) key (asciiLower key) ≡ xs ++ blanks (limit - length xs)
+    step-cells : stepped t (c .cells) key (asciiLower key) ≡ xs ++ blanks (limit - t .count)
     step-cells =
         let u = used-length c s in
         let f = count-fits c s in
         let g = h .count in
         let v = h .grows in
         let b : length (blanks (limit - length (used c))) ≡ limit - length (used c) = length-blanks (limit - length (used c)) in
-        let d : limit - length (used c) - (t .count - length (used c)) ≡ limit - length xs = omega arith in
+        let d : limit - length (used c) - (t .count - length (used c)) ≡ limit - t .count = omega arith in
         rw parted (h .cells (blanks (limit - length (used c))) (omega arith)
         ∙ rw (blanks-less (limit - length (used c)) (t .count - length (used c)), d) refl)
 
     held : stroked c (wrote t) key ≡ holding c xs
-    unfolding stroked stored
-    held = rw (h .count) (made c xs (stored t (c .cells) key (asciiLower key)) (length xs) step-cells refl)
+    unfolding stroked
+    held = made c xs (stepped t (c .cells) key (asciiLower key)) (t .count) step-cells (sym (h .count))
 
 -- what the definitions say where the answer is a number of letters
 in-vietnamese : {A : Type 0} (m : Mode) (a b : A) → m ≡ Vietnamese → inMode m a b ≡ a
@@ -234,8 +213,7 @@ module _ (c : Composition) (key : ℕ) (o : List ℕ) (s : isSound c ≡ true) (
     english-right = go (ltb (length o) 1) refl
       where
         go : (b : Bool) → ltb (length o) 1 ≡ b
-            → Right c key o (pick b (noStroke Short (c .count))
-            (record { change = Nothing; at = 0; also = 0; mark = 0; count = c .count; letters = 1; answer = Done 1 }))
+            → Right c key o (pick b (noStroke Short (c .count)) (wroteKey (c .count)))
         go true q =
             let l : length o < length (writtenFor c key) = rw written-english (ltb-true (length o) 1 q) in
             short-right c key o (outcome-writes c key s a full-english) l

@@ -1,4 +1,4 @@
--- An stroke as the code comes to it; and that its places lie in the array, and its letters in it and in the output.
+-- A stroke as the code comes to it; and that its places lie in the array, and its letters in it and in the output.
 use Prim.Native.Nat.{ℕ, _<_, _≤_}
 use mathlib.Core.Path.{_≡_, refl}
 use mathlib.Core.Bool.{Bool, true, false, not}
@@ -15,14 +15,12 @@ use Rattle.p3_cells.specs.Cells.{limit}
 use Rattle.p3_cells.specs.declared.Cell.{Cell}
 use Rattle.p3_cells.specs.declared.Mode.{Mode}
 use Rattle.p3_cells.specs.declared.Mode.the-variants.{Vietnamese, English}
-use Rattle.p0_refusals.specs.declared.Answer.the-variants.{Done}
 use Rattle.p3_step.specs.Key.{keyCells}
 use Rattle.p3_step.specs.Mirror.{stepOf}
-use Rattle.p3_step.specs.declared.Change.the-variants.{Nothing}
 use Rattle.p3_step.specs.declared.Step.{Step}
 use Rattle.p3_step.proofs.Makes.{Makes, step-makes}
 use Rattle.p3_key.specs.Process.{inMode}
-use Rattle.p3_key.specs.Mirror.{noStroke, stepStroke, passStroke, strokeOf}
+use Rattle.p3_key.specs.Mirror.{noStroke, wrote, wroteKey, stepStroke, passStroke, strokeOf}
 use Rattle.p3_key.specs.declared.Stroke.{Stroke}
 
 -- ---- a step, refused or not
@@ -35,17 +33,7 @@ module _ (s : Step) (n room : ℕ) where
   unfolding stepStroke
   step-short e l h q = rw (le-ltb limit (s .count) l, lt-ltb room (s .count) h) q
 
-  pub step-done : s .count ≤ limit → s .count ≤ room
-      → record {
-        change = s .change;
-        at = s .at;
-        also = s .also;
-        mark = s .mark;
-        count = s .count;
-        letters = s .count;
-        answer = Done
-            (s .count);
-      } ≡ stepStroke s n room
+  pub step-done : s .count ≤ limit → s .count ≤ room → wrote s ≡ stepStroke s n room
   unfolding stepStroke
   step-done l h = rw (le-ltb limit (s .count) l, le-ltb room (s .count) h) refl
 
@@ -71,8 +59,8 @@ module _ (sound : Bool) (m : InputMethod) (o : Mode) (cs : List Cell) (key n roo
 
 -- ---- its bounds
 pub record Bounds (room : ℕ) (e : Stroke) : Type 0 where
-  pub at : e .at < limit
-  pub also : e .also < limit
+  pub at : e .step .at < limit
+  pub also : e .step .also < limit
   pub letters : e .letters ≤ limit
   pub fits : e .letters ≤ room
 
@@ -84,17 +72,7 @@ unfolding stepStroke
 step-bounds s cs xs key k n room h = go (ltb limit (s .count)) (ltb room (s .count)) refl refl
   where
     go : (b d : Bool) → ltb limit (s .count) ≡ b → ltb room (s .count) ≡ d
-        → Bounds room (pick b (noStroke Full n)
-        (pick d (noStroke Short n) (record {
-          change = s .change;
-          at = s .at;
-          also = s .also;
-          mark = s .mark;
-          count = s .count;
-          letters = s .count;
-          answer = Done
-              (s .count);
-        })))
+        → Bounds room (pick b (noStroke Full n) (pick d (noStroke Short n) (wrote s)))
     go true d p q = refused-bounds room n Full
     go false true p q = refused-bounds room n Short
     go false false p q =
@@ -108,9 +86,7 @@ pass-bounds : (n room : ℕ) → Bounds room (passStroke n room)
 unfolding passStroke
 pass-bounds n room = go (ltb room 1) refl
   where
-    go : (b : Bool) → ltb room 1 ≡ b
-        → Bounds room (pick b (noStroke Short n)
-        (record { change = Nothing; at = 0; also = 0; mark = 0; count = n; letters = 1; answer = Done 1 }))
+    go : (b : Bool) → ltb room 1 ≡ b → Bounds room (pick b (noStroke Short n) (wroteKey n))
     go true q = refused-bounds room n Short
     go false q = record { at = omega arith; also = omega arith; letters = omega arith; fits = ltb-false room 1 q }
 
@@ -129,6 +105,6 @@ bounds sound m o cs key n room = go sound (inAlphabet key) o
 
 pub bounded : (sound : Bool) (m : InputMethod) (o : Mode) (cs : List Cell) (key n room : ℕ) (e : Stroke)
     → e ≡ strokeOf sound m o cs key n room
-    → (e ≡ strokeOf sound m o cs key n room) × (e .at < limit) × (e .also < limit) × (e .letters ≤ limit) × (e .letters ≤ room)
+    → (e ≡ strokeOf sound m o cs key n room) × (e .step .at < limit) × (e .step .also < limit) × (e .letters ≤ limit) × (e .letters ≤ room)
 bounded sound m o cs key n room e q =
     let b : Bounds room e = rw q (bounds sound m o cs key n room) in (q, b .at, b .also, b .letters, b .fits)

@@ -26,7 +26,7 @@ use Rattle.p3_step.specs.Key.{toneMade, appended, markOrLater, hornOrLat
 pub data Framed (cs : List Cell) : List Cell → Type 0 where
   appends : (x : Cell) → Framed cs (cs ++ (x ∷ []))
   changes : (i : ℕ) (x : Cell) → i < length cs → Framed cs (set cs i x)
-  changesTwo : (i : ℕ) (x y : Cell) → suc i < length cs → Framed cs (set (set cs i x) (suc i) y)
+  changesTwo : (i : ℕ) (x y : Cell) → suc i < length cs → Framed cs (set (set cs (suc i) y) i x)
 
 place-both : {A : Type 0} (P : A → Type 0) (p : Place) (made : ℕ → A) (later : A) → ((i : ℕ) → p ≡ At i → P (made i)) → P later
     → P (placeOr p made later)

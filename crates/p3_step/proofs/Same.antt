@@ -1,5 +1,5 @@
 -- Cells in use and the row of their bases have their step in common.
-use Prim.Native.Nat.{ℕ, _+_}
+use Prim.Native.Nat.{ℕ}
 use mathlib.Core.Path.{_≡_, refl}
 use mathlib.Core.Bool.{true}
 use mathlib.Core.List.{List}
@@ -21,25 +21,16 @@ use Rattle.p3_marks.proofs.Base.{same-base, same-length}
 use Rattle.p3_marks.proofs.Uo.{uo-same}
 use Rattle.p3_marks.proofs.Ua.{ua-same}
 use Rattle.p3_marks.proofs.Mark.{mark-same}
-use Rattle.p3_step.specs.Mirror.{toneFor, uoFor, uaFor, markAt, markStep, uaStep, uoStep, stepOf}
-use Rattle.p3_step.specs.declared.Change.the-variants.{Append}
+use Rattle.p3_step.specs.Mirror.{marksAt, appendsAt, toneFor, uoFor, uaFor, markStep, uaStep, uoStep, stepOf}
 
 mark-step-same : (m : InputMethod) (cs : List Cell) (k : ℕ) → markStep m (rowCells (bases cs)) k ≡ markStep m cs k
 unfolding markStep
 mark-step-same m cs k = rw (mark-same m cs k) (go (markPlace m cs k))
   where
     go : (p : Place)
-        → placeOr p (λ i. markAt (rowCells (bases cs)) (markFor m (baseAt (rowCells (bases cs)) i) k) i)
-        (record {
-          change = Append;
-          at = length (rowCells (bases cs));
-          also = length (rowCells (bases cs));
-          mark = 0;
-          count = length
-              (rowCells (bases cs)) + 1;
-        })
-        ≡ placeOr p (λ i. markAt cs (markFor m (baseAt cs i) k) i)
-        (record { change = Append; at = length cs; also = length cs; mark = 0; count = length cs + 1 })
+        → placeOr p (λ i. marksAt (length (rowCells (bases cs))) (markFor m (baseAt (rowCells (bases cs)) i) k) i)
+        (appendsAt (length (rowCells (bases cs))))
+        ≡ placeOr p (λ i. marksAt (length cs) (markFor m (baseAt cs i) k) i) (appendsAt (length cs))
     go Nowhere = rw (same-length cs) refl
     go (At i) = rw (same-base cs i, same-length cs) refl
 

@@ -39,12 +39,11 @@ module _ (m : InputMethod) (cs : List Cell) (s : each isCell cs ≡ true) where
   horn-mark = refl
 
   pair-kept : (i : ℕ) → suc i < length cs → each isCell (uoMade cs i) ≡ true
-  unfolding uoMade hornU marks word
+  unfolding uoMade hornU hornO marks word
   pair-kept i h =
-      each-set isCell (set cs i (hornU (getD cs i blank) (getD cs (suc i) blank))) (suc i) hornO
-      (each-set isCell cs i (hornU (getD cs i blank) (getD cs (suc i) blank)) s
-      (marked-cell 0x1b0 (getD cs (suc i) blank) (getD cs i blank .upper) horn-mark (each-at isCell blank cs s (suc i) h)))
-      (bare-marked-cell 0x1a1 false refl)
+      each-set isCell (set cs (suc i) (hornO (getD cs (suc i) blank))) i (hornU (getD cs i blank) (getD cs (suc i) blank))
+      (each-set isCell cs (suc i) (hornO (getD cs (suc i) blank)) s (bare-marked-cell 0x1a1 false refl))
+      (marked-cell 0x1b0 (getD cs (suc i) blank) (getD cs i blank .upper) horn-mark (each-at isCell blank cs s (suc i) h))
 
   module _ (key : ℕ) (a : inAlphabet key ≡ true) where
     mark-kept : (k : ℕ) → each isCell (markOrLater m cs key k) ≡ true

@@ -22,8 +22,7 @@ use Rattle.p3_cells.specs.declared.Place.the-variants.{Nowhere, At}
 use Rattle.p3_marks.proofs.Base.{row-base}
 use Rattle.p3_marks.proofs.Uo.{uo-below}
 use Rattle.p3_marks.proofs.Mark.{place-marks}
-use Rattle.p3_step.specs.Mirror.{toneFor, uoFor, uaFor, markStep, uaStep, uoStep, stepOf}
-use Rattle.p3_step.specs.declared.Change.the-variants.{Tone, Mark, Pair, Append}
+use Rattle.p3_step.specs.Mirror.{tonesAt, marksAt, pairsAt, appendsAt, toneFor, uoFor, uaFor, markStep, uaStep, uoStep, stepOf}
 use Rattle.p3_step.specs.declared.Step.{Step}
 
 module _ (m : InputMethod) (row : List ℕ) (k : ℕ) (f : Place) where
@@ -33,19 +32,17 @@ module _ (m : InputMethod) (row : List ℕ) (k : ℕ) (f : Place) where
     mark-in i q = rw (row-length row) at (place-marks m (rowCells row) k i (sym e ∙ q) .below)
 
     pub mark-found : (i b l : ℕ) → f ≡ At i → b ≡ asciiLower (getD row i 0) → l ≡ markFor m b k
-        → record { change = Mark; at = i; also = i; mark = l; count = length row } ≡ markStep m (rowCells row) k
+        → marksAt (length row) l i ≡ markStep m (rowCells row) k
     unfolding markStep
     mark-found i b l q p r = rw (← e, q, row-base row i, ← p, ← r, row-length row) refl
 
-    pub mark-none : f ≡ Nowhere → record
-        { change = Append; at = length row; also = length row; mark = 0; count = length row + 1 } ≡ markStep m (rowCells row) k
+    pub mark-none : f ≡ Nowhere → appendsAt (length row) ≡ markStep m (rowCells row) k
     unfolding markStep
     mark-none q = rw (← e, q, row-length row) refl
 
   -- ---- ua, else mark
   module _ (e : f ≡ uaFor m (rowCells row) k) where
-    pub ua-found : (i : ℕ) → f ≡ At i
-        → record { change = Mark; at = i; also = i; mark = 0x1b0; count = length row } ≡ uaStep m (rowCells row) k
+    pub ua-found : (i : ℕ) → f ≡ At i → marksAt (length row) 0x1b0 i ≡ uaStep m (rowCells row) k
     unfolding uaStep
     ua-found i q = rw (← e, q, row-length row) refl
 
@@ -66,8 +63,7 @@ module _ (m : InputMethod) (row : List ℕ) (k : ℕ) (f : Place) where
     pub uo-fits : (i : ℕ) → f ≡ At i → length row ≤ limit → i + 1 < 2 ^ 64
     uo-fits i q h = let l = uo-in i q in omega arith
 
-    pub uo-found : (i : ℕ) → f ≡ At i
-        → record { change = Pair; at = i; also = i + 1; mark = 0; count = length row } ≡ uoStep m (rowCells row) k
+    pub uo-found : (i : ℕ) → f ≡ At i → pairsAt (length row) i ≡ uoStep m (rowCells row) k
     unfolding uoStep
     uo-found i q = rw (← e, q, row-length row) refl
 
@@ -77,8 +73,7 @@ module _ (m : InputMethod) (row : List ℕ) (k : ℕ) (f : Place) where
 
   -- ---- tone, else uo
   module _ (e : f ≡ toneFor m (rowCells row) k) where
-    pub tone-found : (i : ℕ) → f ≡ At i
-        → record { change = Tone; at = i; also = i; mark = 0; count = length row } ≡ stepOf m (rowCells row) k
+    pub tone-found : (i : ℕ) → f ≡ At i → tonesAt (length row) i ≡ stepOf m (rowCells row) k
     unfolding stepOf
     tone-found i q = rw (← e, q, row-length row) refl
 

@@ -24,7 +24,7 @@ pub enum Change {
     Append,
 }
 
-// A step as numbers: the place, the place of a pair's ơ (else the same one), the mark, and how many cells there are then.
+// A step as numbers: the place, the other place that changes (else the same one), the mark, and how many cells there are then.
 pub struct Step {
     pub change: Change,
     pub at: usize,
@@ -176,9 +176,9 @@ pub fn put_cell(change: Change, mark: u16, x: Cell, y: Cell, key: u32, k: u32) -
     }
 }
 
-// The cell at the other place, which is a pair's alone.
-pub fn also_cell(change: Change, p: Cell) -> Cell
-    ensures { λ r. ⌜ r ≡ alsoCell change p ⌝ }
+// The cell at the other place, where y stands. It is stored first: where the two places are one, the place's own cell stays.
+pub fn also_cell(change: Change, y: Cell) -> Cell
+    ensures { λ r. ⌜ r ≡ alsoCell change y ⌝ }
 {
     match change {
         Change::Pair => Cell {
@@ -187,9 +187,9 @@ pub fn also_cell(change: Change, p: Cell) -> Cell
             tone: 0,
             upper: false,
         },
-        Change::Nothing => p,
-        Change::Tone => p,
-        Change::Mark => p,
-        Change::Append => p,
+        Change::Nothing => y,
+        Change::Tone => y,
+        Change::Mark => y,
+        Change::Append => y,
     }
 }

@@ -62,8 +62,8 @@ compose-spec =
     (λ c. (search needs, search needs, search needs, search faults-past))
     -- the stroke, and its stores
     (λ c κs. search needs) (λ c. search needs) (λ c. search needs) (λ c. search needs) (λ c κs. search needs) (λ c. search needs)
-    (λ c. search needs) (λ c. search needs) (λ c. search needs) (λ c κs. search needs) (λ c κs. search needs) (λ c. search needs)
-    (λ c. search needs) (λ c κs. search needs) (λ c. search needs) (λ c. search needs)
+    (λ c. search needs) (λ c. search needs) (λ c. search needs) (λ c κs. search needs) (λ c κs. search needs) (λ c κs. search needs)
+    (λ c. search needs) (λ c. search needs) (λ c. search needs) (λ c. search needs)
     -- the letters
     (λ c. (search needs, search needs, search no-letters-yet))
     (λ c. search needs) (λ c. search needs) (λ c κs. search needs) (λ c. search needs) (λ c. search needs) (λ c. search needs)
@@ -72,12 +72,12 @@ compose-spec =
     let loop = c .before .before .before in
     let also = loop .before in
     let put = also .before in
-    let stroke = put .before .before .before .before in
+    let stroke = put .before .before .before .before .before in
     let start = stroke .before .before .before .before .before .before .before .before .before .before in (
       search needs,
       simp length-set (search needs),
-      letters-stored _ _ (start .args .t1 .cells) (stroke .stroke-of .result .at) (stroke .stroke-of .result .also) (put .put-cell .result)
-          (also .also-cell .result) (start .args .out .now) _ _ _ _ (long start) (loop .loop3 .inv .2)
+      letters-stored _ _ (start .args .t1 .cells) (stroke .stroke-of .result .step .also) (stroke .stroke-of .result .step .at)
+          (also .also-cell .result) (put .put-cell .result) (start .args .out .now) _ _ _ _ (long start) (loop .loop3 .inv .2)
           (c .letter-for .ensures) (c .before .before .loop3-test .taken) (stroke .stroke-of .ensures .3) (stroke .stroke-of .ensures .4),
     ))
     (λ c. search needs)
@@ -86,7 +86,7 @@ compose-spec =
     let also = c .before .before in
     let put = also .before in
     let lower = put .before in
-    let stroke = lower .before .before .before in
+    let stroke = lower .before .before .before .before in
     let sound = stroke .before .before .before in
     let past-left = sound .before in
     let past = past-left .before in
