@@ -35,7 +35,7 @@ use Rattle.p3_key.proofs.Letters.{lettersTo, no-letters-yet}
 use Rattle.p3_key.proofs.Right.{stroked, Right, stroke-right}
 use Rattle.p3_key.proofs.Strokes.{step-full, step-short, step-done, stroke-foreign, stroke-step, stroke-pass}
 use Rattle.p3_step.specs.Key.{keyCells}
-use Rattle.p3_step.specs.Mirror.{appendsAt, stepOf, putCell, alsoCell, put}
+use Rattle.p3_step.specs.Mirror.{appendsAt, stepOf, putCell, alsoCell}
 use Rattle.p3_step.specs.declared.Step.{Step}
 use Rattle.p3_step.proofs.Makes.{stepped, still-same, Makes, step-makes}
 use Rattle.p3_step.proofs.Same.{step-same}
