@@ -17,6 +17,7 @@ use Rattle.p2_input_method.specs.declared.InputMethod.{InputMethod}
 use Rattle.p2_input_method.specs.declared.InputMethod.the-variants.{Telex, Vni}
 use Rattle.p2_input_method.specs.declared.MarkRule.{MarkRule}
 use Rattle.p3_cells.specs.declared.Cell.{Cell}
+use Rattle.p3_cells.specs.declared.Settings.{Settings}
 use Rattle.p3_cells.specs.declared.Place.the-variants.{Nowhere}
 use Rattle.p3_marks.specs.Mark.{markBack, markPlace}
 use Rattle.p3_marks.specs.Uo.{baseAt}
@@ -66,6 +67,6 @@ module _ (m : InputMethod) (k : ℕ) (i : acts m k ≡ false) where
   none-back cs (suc n) zero = refl
   none-back cs (suc n) (suc j) = rw (no-mark m (baseAt cs j) k i) (none-back cs n j)
 
-  pub idle-step : (cs : List Cell) (n : ℕ) → length cs ≡ n → appendsAt n ≡ stepOf m cs k
-  unfolding stepOf toneFor uoStep uoFor uaStep uaFor markStep markPlace
-  idle-step cs n l = rw (no-tone, no-horn, none-back cs 5 (length cs), l) refl
+pub idle-step : (z : Settings) (k : ℕ) → acts (z .method) k ≡ false → (cs : List Cell) (n : ℕ) → length cs ≡ n → appendsAt n ≡ stepOf z cs k
+unfolding stepOf toneFor uoStep uoFor uaStep uaFor markStep markPlace
+idle-step z k i cs n l = rw (no-tone (z .method) k i, no-horn (z .method) k i, none-back (z .method) k i cs 5 (length cs), l) refl

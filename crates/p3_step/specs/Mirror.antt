@@ -4,13 +4,15 @@
 use Prim.Native.Nat.{ℕ, _+_, _%_}
 use Prim.Native.Char.{code}
 use mathlib.Core.List.{List}
-use lib.ListN.{length, getD}
+use lib.ListN.{length}
 use Rattle.p0_choice.specs.Choice.{pick}
 use Rattle.p2_input_method.specs.Rules.{isToneKey, isHornKey, markFor}
-use Rattle.p2_input_method.specs.declared.InputMethod.{InputMethod}
-use Rattle.p3_cells.specs.Cells.{blank, typed}
+use Rattle.p3_cells.specs.declared.Settings.{Settings}
+use Rattle.p3_cells.specs.Cells.{typed}
+use Rattle.p3_cells.specs.Mirror.{cellOf}
 use Rattle.p3_cells.specs.Place.{placeOr}
 use Rattle.p3_cells.specs.declared.Cell.{Cell}
+use Rattle.p3_cells.specs.declared.Composition.{Composition}
 use Rattle.p3_tone.specs.TonePlace.{anyVowel, tonePlace}
 use Rattle.p3_marks.specs.Uo.{baseAt, uoPlace, hornU, hornO}
 use Rattle.p3_marks.specs.Ua.{uaPlace, marked}
@@ -38,26 +40,27 @@ abbrev pub appendsAt : ℕ → Step
 appendsAt n = record { change = Append; at = n; also = n; mark = 0; count = n + 1 }
 
 -- ---- the step of a key
-unfoldable pub toneFor : InputMethod → List Cell → ℕ → Place
-toneFor m cs k = pick (isToneKey m k) (pick (anyVowel cs) (At (tonePlace cs)) Nowhere) Nowhere
+unfoldable pub toneFor : Settings → List Cell → ℕ → Place
+toneFor z cs k = pick (isToneKey (z .method) k) (pick (anyVowel cs) (At (tonePlace cs)) Nowhere) Nowhere
 
-unfoldable pub uoFor : InputMethod → List Cell → ℕ → Place
-uoFor m cs k = pick (isHornKey m k) (uoPlace cs) Nowhere
+unfoldable pub uoFor : Settings → List Cell → ℕ → Place
+uoFor z cs k = pick (isHornKey (z .method) k) (uoPlace cs) Nowhere
 
-unfoldable pub uaFor : InputMethod → List Cell → ℕ → Place
-uaFor m cs k = pick (isHornKey m k) (uaPlace cs) Nowhere
+unfoldable pub uaFor : Settings → List Cell → ℕ → Place
+uaFor z cs k = pick (isHornKey (z .method) k) (uaPlace cs) Nowhere
 
-unfoldable pub markStep : InputMethod → List Cell → ℕ → Step
-markStep m cs k = placeOr (markPlace m cs k) (λ i. marksAt (length cs) (markFor m (baseAt cs i) k) i) (appendsAt (length cs))
+unfoldable pub markStep : Settings → List Cell → ℕ → Step
+markStep z cs k =
+    placeOr (markPlace (z .method) cs k) (λ i. marksAt (length cs) (markFor (z .method) (baseAt cs i) k) i) (appendsAt (length cs))
 
-unfoldable pub uaStep : InputMethod → List Cell → ℕ → Step
-uaStep m cs k = placeOr (uaFor m cs k) (marksAt (length cs) (code "ư")) (markStep m cs k)
+unfoldable pub uaStep : Settings → List Cell → ℕ → Step
+uaStep z cs k = placeOr (uaFor z cs k) (marksAt (length cs) (code "ư")) (markStep z cs k)
 
-unfoldable pub uoStep : InputMethod → List Cell → ℕ → Step
-uoStep m cs k = placeOr (uoFor m cs k) (pairsAt (length cs)) (uaStep m cs k)
+unfoldable pub uoStep : Settings → List Cell → ℕ → Step
+uoStep z cs k = placeOr (uoFor z cs k) (pairsAt (length cs)) (uaStep z cs k)
 
-unfoldable pub stepOf : InputMethod → List Cell → ℕ → Step
-stepOf m cs k = placeOr (toneFor m cs k) (tonesAt (length cs)) (uoStep m cs k)
+unfoldable pub stepOf : Settings → List Cell → ℕ → Step
+stepOf z cs k = placeOr (toneFor z cs k) (tonesAt (length cs)) (uoStep z cs k)
 
 -- ---- the cells that come at the two places, where x and y stand
 unfoldable pub putCell : Change → ℕ → Cell → Cell → ℕ → ℕ → Cell
@@ -74,9 +77,9 @@ alsoCell Mark y = y
 alsoCell Pair y = hornO y
 alsoCell Append y = y
 
--- the two cells that a step puts into an array, each made of what stood there
-abbrev pub put : Step → List Cell → ℕ → ℕ → Cell
-put s cells key k = putCell (s .change) (s .mark) (getD cells (s .at) blank) (getD cells (s .also) blank) key k
+-- the two cells that a step puts into a composition, each made of what stands there
+abbrev pub put : Step → Composition → ℕ → ℕ → Cell
+put s c key k = putCell (s .change) (s .mark) (cellOf c (s .at)) (cellOf c (s .also)) key k
 
-abbrev pub alsoPut : Step → List Cell → Cell
-alsoPut s cells = alsoCell (s .change) (getD cells (s .also) blank)
+abbrev pub alsoPut : Step → Composition → Cell
+alsoPut s c = alsoCell (s .change) (cellOf c (s .also))
