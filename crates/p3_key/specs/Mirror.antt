@@ -9,11 +9,11 @@ use Rattle.p0_choice.specs.Choice.{pick}
 use Rattle.p0_refusals.specs.declared.Refusal.{Refusal}
 use Rattle.p0_refusals.specs.declared.Refusal.the-variants.{Foreign, Full, Short, Unsound}
 use Rattle.p1_letters.specs.Alphabet.{inAlphabet, asciiLower}
-use Rattle.p2_input_method.specs.declared.InputMethod.{InputMethod}
 use Rattle.p3_cells.specs.Cells.{limit}
 use Rattle.p3_cells.specs.Text.{shown}
 use Rattle.p3_cells.specs.declared.Cell.{Cell}
 use Rattle.p3_cells.specs.declared.Mode.{Mode}
+use Rattle.p3_cells.specs.declared.Settings.{Settings}
 use Rattle.p0_refusals.specs.declared.Answer.{Answer}
 use Rattle.p0_refusals.specs.declared.Answer.the-variants.{Done, Refused}
 use Rattle.p3_step.specs.Mirror.{still, stepOf}
@@ -49,8 +49,8 @@ stepStroke s n room = pick (ltb limit (s .count)) (noStroke Full n) (pick (ltb r
 unfoldable pub passStroke : ℕ → ℕ → Stroke
 passStroke n room = pick (ltb room 1) (noStroke Short n) (wroteKey n)
 
-unfoldable pub strokeOf : Bool → InputMethod → Mode → List Cell → ℕ → ℕ → ℕ → Stroke
-strokeOf sound m o cs key n room =
-    pick sound (pick (inAlphabet key) (inMode o (stepStroke (stepOf m cs (asciiLower key)) n room) (passStroke n room))
+unfoldable pub strokeOf : Bool → Settings → List Cell → ℕ → ℕ → ℕ → Stroke
+strokeOf sound z cs key n room =
+    pick sound (pick (inAlphabet key) (inMode (z .mode) (stepStroke (stepOf z cs (asciiLower key)) n room) (passStroke n room))
     (noStroke Foreign n))
     (noStroke Unsound n)

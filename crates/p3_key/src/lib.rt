@@ -15,13 +15,13 @@ ghost use Rattle.p3_key.specs.Mirror.{soundBy, letterFor, stays, noStrok
 use p0_refusals::Answer;
 use p0_refusals::Refusal;
 use p1_letters as letters;
-use p2_input_method::InputMethod;
 use p3_cells as cells;
 use p3_cells::After;
 use p3_cells::Cell;
 use p3_cells::Composition;
 use p3_cells::LIMIT;
 use p3_cells::Mode;
+use p3_cells::Settings;
 use p3_step as step;
 use p3_step::Change;
 use p3_step::Step;
@@ -94,17 +94,9 @@ fn pass_stroke(n: usize, room: usize) -> Stroke
 }
 
 // What the key does. The places lie in the array, and the letters fit into it and into the output.
-fn stroke_of(
-    sound: bool,
-    m: InputMethod,
-    o: Mode,
-    row: &[u32],
-    key: u32,
-    n: usize,
-    room: usize,
-) -> Stroke
+fn stroke_of(sound: bool, z: Settings, row: &[u32], key: u32, n: usize, room: usize) -> Stroke
     requires { ⌜ length (now row) ≤ limit ⌝ }
-    ensures { λ r. ⌜ (r ≡ strokeOf sound m o (rowCells (now (row .entry))) key n room) × (r .step .at < limit)
+    ensures { λ r. ⌜ (r ≡ strokeOf sound z (rowCells (now (row .entry))) key n room) × (r .step .at < limit)
         × (r .step .also < limit) × (r .letters ≤ limit) × (r .letters ≤ room) ⌝ }
 {
     if !sound {
@@ -113,9 +105,10 @@ fn stroke_of(
     if !letters::in_alphabet(key) {
         return refuse(Refusal::Foreign, n);
     }
+    let o = z.mode;
     match o {
         Mode::Vietnamese => {
-            let s = step::first_step(m, row, letters::ascii_lower(key));
+            let s = step::first_step(z, row, letters::ascii_lower(key));
             step_stroke(s, n, room)
         }
         Mode::English => pass_stroke(n, room),
@@ -183,9 +176,9 @@ fn compose(mut c: Composition, key: u32, out: &mut [u32], trusted: bool) -> Afte
         i += 1;
     }
     let sound = is_sound(trusted, n, faults);
-    let m = c.method;
-    let o = c.mode;
-    let e = stroke_of(sound, m, o, &bases[0..used], key, n, out.len());
+    let z = c.settings;
+    let o = z.mode;
+    let e = stroke_of(sound, z, &bases[0..used], key, n, out.len());
     let s = e.step;
     let change = s.change;
     let at = s.at;

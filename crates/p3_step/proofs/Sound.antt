@@ -51,7 +51,8 @@ module _ (z : Settings) (cs : List Cell) (s : each isCell cs ≡ true) where
     mark-kept k = go (markPlace (z .method) cs k) refl
       where
         go : (p : Place) → markPlace (z .method) cs k ≡ p
-            → each isCell (placeOr p (λ i. set cs i (marked (getD cs i blank) (markFor (z .method) (baseAt cs i) k))) (cs ++ (typed key ∷ []))) ≡ true
+            → each isCell (placeOr p (λ i. set cs i (marked (getD cs i blank) (markFor (z .method) (baseAt cs i) k)))
+            (cs ++ (typed key ∷ []))) ≡ true
         go Nowhere e = each-append isCell cs (typed key) s (typed-cell key a)
         go (At i) e = let h = place-marks (z .method) cs k i e in
             marked-kept i (markFor (z .method) (baseAt cs i) k) (h .below) (mark-for-mark (z .method) (baseAt cs i) k (h .rule))
