@@ -24,7 +24,7 @@ use Rattle.p3_calls.proofs.Back.{removal-back}
 one-more : (cs : List Cell) {ds : List Cell} → Framed cs ds → length ds ≡ suc (length cs) → (x : Cell) × (ds ≡ cs ++ (x ∷ []))
 one-more cs (appends x) e = (x, refl)
 one-more cs (changes i x h) e = absurd (omega (arith, length-set cs i x))
-one-more cs (changesTwo i x y h) e = absurd (omega (arith, length-set (set cs i x) (suc i) y, length-set cs i x))
+one-more cs (changesTwo i x y h) e = absurd (omega (arith, length-set (set cs (suc i) y) i x, length-set cs (suc i) y))
 
 module _ (c : Composition) (s : isSound c ≡ true) (key : ℕ) where
   appended-one : holding c (nextCells c key) .count ≡ suc (c .count) → (x : Cell) × (nextCells c key ≡ used c ++ (x ∷ []))

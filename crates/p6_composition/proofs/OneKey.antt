@@ -28,17 +28,16 @@ use Rattle.p3_cells.proofs.Fill.{Filled, fill-none, fill-more, filled}
 use Rattle.p3_cells.proofs.Holding.{used-length, used-cells}
 use Rattle.p3_cells.proofs.Row.{row-length, bases-length}
 use Rattle.p3_key.specs.Process.{keyOutcome, keyed}
-use Rattle.p3_key.specs.Mirror.{letterFor, noStroke, passStroke, stepStroke, strokeOf}
+use Rattle.p3_key.specs.Mirror.{letterFor, noStroke, wrote, wroteKey, passStroke, stepStroke, strokeOf}
 use Rattle.p3_key.specs.declared.Stroke.{Stroke}
 use Rattle.p3_key.proofs.Frame.{english-stays}
 use Rattle.p3_key.proofs.Letters.{lettersTo, no-letters-yet}
 use Rattle.p3_key.proofs.Right.{stroked, Right, stroke-right}
 use Rattle.p3_key.proofs.Strokes.{step-full, step-short, step-done, stroke-foreign, stroke-step, stroke-pass}
 use Rattle.p3_step.specs.Key.{keyCells}
-use Rattle.p3_step.specs.Mirror.{stepOf, putCell, alsoCell}
-use Rattle.p3_step.specs.declared.Change.the-variants.{Nothing, Append}
+use Rattle.p3_step.specs.Mirror.{appendsAt, stepOf, putCell, alsoCell}
 use Rattle.p3_step.specs.declared.Step.{Step}
-use Rattle.p3_step.proofs.Makes.{Makes, step-makes}
+use Rattle.p3_step.proofs.Makes.{stepped, still-same, Makes, step-makes}
 use Rattle.p3_step.proofs.Same.{step-same}
 use Rattle.p6_bytes.specs.Bytes.{methodByte, modeByte, byteAt, bytesOf, compositionOf, methodOf, bytesSound}
 use Rattle.p6_bytes.specs.Mirror.{stored}
@@ -46,7 +45,7 @@ use Rattle.p6_bytes.proofs.Round.{read-written, method-back}
 use Rattle.p6_bytes.proofs.Sound.{sound-composition}
 use Rattle.p6_bytes.proofs.Stored.{cells-all, cell-stored, lent}
 use Rattle.p6_composition.specs.Calls.{answerOn, bytesOn, outOn, keyOn}
-use Rattle.p6_composition.specs.Mirror.{putOn, applied}
+use Rattle.p6_composition.specs.Mirror.{applied}
 use Rattle.p6_composition.proofs.Calls.{ok-sound}
 use Rattle.p6_composition.proofs.InPlace.{both-stored}
 
@@ -72,7 +71,7 @@ module _ (b : List ℕ) (s : bytesSound b ≡ true) (m : InputMethod) (k n : ℕ
       ∙ used-length (compositionOf b) (sound-composition b s) ∙ sym p
 
   pub idle-on : (v : Bool) → v ≡ acts m k → not v ≡ true
-      → record { change = Append; at = n; also = n; mark = 0; count = n + 1 } ≡ stepOf m (rowCells (bases (used (compositionOf b)))) k
+      → appendsAt n ≡ stepOf m (rowCells (bases (used (compositionOf b)))) k
   idle-on v e t = idle-step m k (sym e ∙ not-true v t) (rowCells (bases (used (compositionOf b)))) n row-long
 
   pub row-on : (row part : List ℕ) (r : Step) → take n row ≡ bases (take n (compositionOf b .cells)) → part ≡ take (n - 0) (drop 0 row)
@@ -181,15 +180,7 @@ module _ (b : List ℕ) (v : Bool) (e : v ≡ bytesSound b) (t : not v ≡ false
           pass-short = refused Short no-room
 
         module _ (l : 1 ≤ length o) where
-          passes : IsStroke (record {
-            change = Nothing;
-            at = 0;
-            also = 0;
-            mark = 0;
-            count = compositionOf b .count;
-            letters = 1;
-            answer = Done 1;
-          })
+          passes : IsStroke (wroteKey (compositionOf b .count))
           unfolding passStroke
           passes = stroke-pass true _ _ _ key _ _ _ u refl a w (english _ i h z) (rw (le-ltb (length o) 1 l) refl)
 
@@ -205,7 +196,7 @@ module _ (b : List ℕ) (v : Bool) (e : v ≡ bytesSound b) (t : not v ≡ false
           unfolding stroked
           pass-out = letters-out _ (set o 0 key) passes
               (one-letter (compositionOf b .mode) key _ o (english _ i h z)
-              (rw (length-set, length-set, cells-all b) (omega arith)) l)
+              (rw (still-same (compositionOf b .cells) (compositionOf b .count) key (asciiLower key), cells-all b) (omega arith)) l)
 
       -- ---- Vietnamese
       module _ (z : i ≡ 1 → ⊥) (y : ℕ) (m : InputMethod) (k : ℕ) (r : Step) (g : y ≡ methodByte (compositionOf b .method))
@@ -253,57 +244,51 @@ module _ (b : List ℕ) (v : Bool) (e : v ≡ bytesSound b) (t : not v ≡ false
           places = (place-below, other-below)
 
           module _ (l′ : r .count ≤ length o) where
-            abbrev wrote : Stroke
-            wrote = record {
-              change = r .change;
-              at = r .at;
-              also = r .also;
-              mark = r .mark;
-              count = r .count;
-              letters = r .count;
-              answer = Done (r .count);
-            }
-
-            writes : IsStroke wrote
+            writes : IsStroke (wrote r)
             writes = by-step _ (step-done r (compositionOf b .count) (length o) l l′)
 
             key-told : Done (r .count) ≡ answerOn b (keyOn b key o)
-            key-told = told wrote writes
+            key-told = told (wrote r) writes
 
             module _ (new : List ℕ) (f : (j : ℕ) → Fits w8 (byteAt b j)) (h′ : new ≡ applied b r key k) where
               abbrev after : Composition
               after = record {
-                cells = set (set (compositionOf b .cells) (r .at) (putOn b r key k)) (r .also) (alsoCell (r .change) (putOn b r key k));
+                cells = stepped r (compositionOf b .cells) key k;
                 method = compositionOf b .method;
                 mode = compositionOf b .mode;
                 count = r .count;
               }
 
-              after-is : after ≡ stroked (compositionOf b) wrote key
-              unfolding stroked putOn
+              after-is : after ≡ stroked (compositionOf b) (wrote r) key
+              unfolding stroked
               after-is = rw x refl
 
               stores : new ≡ bytesOf after
-              unfolding applied
-              stores = h′ ∙ three-stored (compositionOf b) b _ _ (r .at) (r .also) (r .count) (putOn b r key k) _ (lent b f s)
-                  (omega (arith, cells-all b, place-below)) (omega (arith, cells-all b, other-below)) refl refl
+              unfolding applied stepped
+              stores = h′ ∙ three-stored (compositionOf b) b _ _ (r .also) (r .at) (r .count) _ _ (lent b f s)
+                  (omega (arith, cells-all b, other-below)) (omega (arith, cells-all b, place-below)) refl refl
+
+              after-long : length (after .cells) ≡ limit
+              unfolding stepped
+              after-long =
+                  length-set (set (compositionOf b .cells) (r .also) _) (r .at) _
+                  ∙ length-set (compositionOf b .cells) (r .also) _ ∙ cells-all b
 
               key-stored : new ≡ bytesOn b (keyOn b key o)
               unfolding bytesOn keyOn
-              key-stored = rw (← key-told) (stores ∙ ap bytesOf (after-is ∙ right wrote writes .comp))
+              key-stored = rw (← key-told) (stores ∙ ap bytesOf (after-is ∙ right (wrote r) writes .comp))
 
-              cells-now : compositionOf new .cells ≡ stroked (compositionOf b) wrote key .cells
+              cells-now : compositionOf new .cells ≡ stroked (compositionOf b) (wrote r) key .cells
               cells-now = ap (λ (j : List ℕ). compositionOf j .cells) stores
                   ∙ ap (λ (d : Composition). d .cells)
-                  (read-written after (length-set (set (compositionOf b .cells) (r .at) (putOn b r key k)) (r .also) _
-                  ∙ length-set (compositionOf b .cells) (r .at) (putOn b r key k) ∙ cells-all b) ∙ after-is)
+                  (read-written after after-long ∙ after-is)
 
               key-written : (text : List ℕ) → text ≡ textOf (take (r .count) (compositionOf new .cells)) ++ drop (r .count) o
                   → text ≡ outOn b (keyOutcome (compositionOf b) key) o
               key-written text j =
-                  letters-out wrote text writes
+                  letters-out (wrote r) text writes
                   (j ∙ ap (λ (d : List Cell). textOf (take (r .count) d) ++ drop (r .count) o) cells-now
-                  ∙ all-letters (compositionOf b .mode) key (stroked (compositionOf b) wrote key .cells) (r .count) o (vietnamese _ i h z))
+                  ∙ all-letters (compositionOf b .mode) key _ (r .count) o (vietnamese _ i h z))
 
               pub done-key : (text : List ℕ) → text ≡ textOf (take (r .count) (compositionOf new .cells)) ++ drop (r .count) o
                   → (Done (r .count) ≡ answerOn b (keyOn b key o)) × (new ≡ bytesOn b (keyOn b key o))
@@ -312,8 +297,8 @@ module _ (b : List ℕ) (v : Bool) (e : v ≡ bytesSound b) (t : not v ≡ false
 
 -- ---- the stores as the code makes them
 pub applied-is : (b s1 s2 : List ℕ) (r : Step) (key k : ℕ) (c1 c2 p1 p2 : Cell) → c1 ≡ getD (compositionOf b .cells) (r .at) blank
-    → c2 ≡ getD (compositionOf b .cells) (r .also) blank → p1 ≡ putCell (r .change) (r .mark) c1 c2 key k → p2 ≡ alsoCell (r .change) p1
-    → s1 ≡ stored b (r .at) p1 → s2 ≡ stored s1 (r .also) p2
+    → c2 ≡ getD (compositionOf b .cells) (r .also) blank → p1 ≡ putCell (r .change) (r .mark) c1 c2 key k → p2 ≡ alsoCell (r .change) c2
+    → s1 ≡ stored b (r .also) p2 → s2 ≡ stored s1 (r .at) p1
     → set s2 2 (r .count) ≡ applied b r key k
-unfolding applied putOn
+unfolding applied
 applied-is b s1 s2 r key k c1 c2 p1 p2 e1 e2 e3 e4 e5 e6 = rw (e6, e5, e4, e3, e2, e1) refl

@@ -128,9 +128,9 @@ fn apply(b: &mut [u8], s: Step, key: u32, k: u32)
     let x = bytes::cell(b, i);
     let y = bytes::cell(b, j);
     let p = step::put_cell(change, s.mark, x, y, key, k);
-    let q = step::also_cell(change, p);
-    bytes::store(b, i, p);
+    let q = step::also_cell(change, y);
     bytes::store(b, j, q);
+    bytes::store(b, i, p);
     b[2] = s.count as u8;
 }
 
