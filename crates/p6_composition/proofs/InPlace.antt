@@ -93,15 +93,15 @@ same-size b s i x l k = set-size s i x l ∙ sym k
 
 -- ---- what is told and left, where k is what the call by value leaves
 module _ (b : List ℕ) (s : bytesSound b ≡ true) (k : After) where
-  told : (d : Composition) (a : Answer) → record { comp = d; answer = a } ≡ k → a ≡ answerOn b k
+  pub told : (d : Composition) (a : Answer) → record { comp = d; answer = a } ≡ k → a ≡ answerOn b k
   unfolding answerOn
   told d a p = rw (s, ← p) refl
 
-  stays : (r : Refusal) → refusing (compositionOf b) r ≡ k → b ≡ bytesOn b k
+  pub stays : (r : Refusal) → refusing (compositionOf b) r ≡ k → b ≡ bytesOn b k
   unfolding bytesOn answerOn
   stays r p = rw (s, ← p) refl
 
-  becomes : (d : Composition) (n : ℕ) (new : List ℕ) → record { comp = d; answer = Done n } ≡ k → new ≡ bytesOf d → new ≡ bytesOn b k
+  pub becomes : (d : Composition) (n : ℕ) (new : List ℕ) → record { comp = d; answer = Done n } ≡ k → new ≡ bytesOf d → new ≡ bytesOn b k
   unfolding bytesOn answerOn
   becomes d n new p h = rw (s, ← p) h
 

@@ -2,12 +2,17 @@
 use Prim.Native.Nat.{ℕ}
 use mathlib.Core.List.{List}
 use lib.ListN.{getD, set}
-use Rattle.p3_cells.specs.Cells.{blank}
+use Rattle.p3_cells.specs.Cells.{blank, used}
+use Rattle.p3_cells.specs.declared.After.{After}
 use Rattle.p3_cells.specs.declared.Cell.{Cell}
 use Rattle.p3_step.specs.Mirror.{putCell, alsoCell}
 use Rattle.p3_step.specs.declared.Step.{Step}
+use Rattle.p3_undo.specs.Call.{undoFound}
+use Rattle.p3_undo.specs.Raw.{rawLowered}
+use Rattle.p3_undo.specs.Undo.{toUndo}
 use Rattle.p6_bytes.specs.Bytes.{compositionOf}
 use Rattle.p6_bytes.specs.Mirror.{stored}
+use Rattle.p6_composition.specs.UndoAnswer.{undoLeaving}
 
 -- the cell that a step puts at its place
 unfoldable pub putOn : List ℕ → Step → ℕ → ℕ → Cell
@@ -18,3 +23,8 @@ putOn b s key k =
 unfoldable pub applied : List ℕ → Step → ℕ → ℕ → List ℕ
 applied b s key k =
     set (stored (stored b (s .at) (putOn b s key k)) (s .also) (alsoCell (s .change) (putOn b s key k))) 2 (s .count)
+
+-- what undo leaves by a trigger in lower case, where nothing is refused before it is asked what is found
+unfoldable pub foundOn : List ℕ → List ℕ → ℕ → After
+foundOn b raw t =
+    undoLeaving (undoFound (compositionOf b) (toUndo (compositionOf b .method) (used (compositionOf b)) (rawLowered raw) t))
