@@ -6,22 +6,16 @@ ghost use Prim.Native.Nat.{_+_, _*_, _-_, _<_, _≤_};
 ghost use lib.Dec.{eqb};
 ghost use lib.ListN.{length, getD, take, drop};
 ghost use Rattle.p0_choice.specs.Choice.{pick};
-ghost use Rattle.p3_cells.specs.Cells.{limit, blank, blanks, used, holding};
-ghost use Rattle.p6_bytes.specs.Bytes.{head, size, methodByte, modeByte, flagByte, cellBytes, cellsBytes, zeros, bytesOf, cellAt};
-ghost use Rattle.p6_bytes.specs.Bytes.{start, methodOf, modeOf, cellsAt, compositionOf, reservedZero, bytesSound};
+ghost use Rattle.p3_cells.specs.Cells.{limit, blank};
+ghost use Rattle.p6_bytes.specs.Bytes.{size, methodByte, modeByte, flagByte, cellBytes, zeros, cellAt};
+ghost use Rattle.p6_bytes.specs.Bytes.{compositionOf, reservedZero, bytesSound};
 ghost use Rattle.p6_bytes.specs.Mirror.{longAt, cellFits, cellsFit, zeroIn, zeroFrom, stored};
-use p2_input_method::InputMethod;
 use p3_cells as cells;
 use p3_cells::Cell;
-use p3_cells::Composition;
-use p3_cells::Mode;
 
 pub const HEAD: usize = 8;
 
 pub const SIZE: usize = HEAD + 8 * cells::LIMIT;
-
-// The bytes of the head that say something; the others are reserved.
-const KNOWN: usize = 3;
 
 // How many bytes are tested for 0 at once.
 const BLOCK: usize = 128;
@@ -58,24 +52,6 @@ fn cell_at(b: &[u8], at: usize) -> Cell
         tone: b[at + 6],
         upper: b[at + 7] == 1,
     }
-}
-
-fn method_of(x: u8) -> InputMethod
-    ensures { λ r. ⌜ r ≡ methodOf x ⌝ }
-{
-    if x == 0 {
-        return InputMethod::Telex;
-    }
-    InputMethod::Vni
-}
-
-fn mode_of(x: u8) -> Mode
-    ensures { λ r. ⌜ r ≡ modeOf x ⌝ }
-{
-    if x == 0 {
-        return Mode::Vietnamese;
-    }
-    Mode::English
 }
 
 // ---- soundness
@@ -180,7 +156,7 @@ fn zero_from(b: &[u8], at: usize) -> bool
     w == 0
 }
 
-// The bytes of the head from KNOWN on.
+// The bytes of the head that say nothing.
 fn reserved_zero(b: &[u8]) -> bool
     requires { ⌜ length (now b) ≡ size ⌝ }
     ensures { λ r. ⌜ r ≡ reservedZero (now (b .entry)) ⌝ }
@@ -244,38 +220,6 @@ pub fn bytes_ok(b: &[u8]) -> bool
     zero_from(b, HEAD + 8 * n)
 }
 
-// ---- the composition
-
-fn cells_of(b: &[u8], n: usize) -> [Cell; cells::LIMIT]
-    requires { ⌜ (length (now b) ≡ size) × (n ≤ limit) ⌝ }
-    ensures { λ r. ⌜ r ≡ cellsAt n (now (b .entry)) head ++ blanks (limit - n) ⌝ }
-{
-    let z = cells::blank();
-    let mut xs = [z; cells::LIMIT];
-    let mut i: usize = 0;
-    while i < n {
-        xs[i] = cell_at(b, HEAD + 8 * i);
-        i += 1;
-    }
-    xs
-}
-
-pub fn decode(b: &[u8]) -> Composition
-    requires { ⌜ bytesSound (now b) ≡ true ⌝ }
-    ensures { λ r. ⌜ r ≡ compositionOf (now (b .entry)) ⌝ }
-{
-    let n = wide(b[2]);
-    let xs = cells_of(b, n);
-    let method = method_of(b[0]);
-    let mode = mode_of(b[1]);
-    Composition {
-        cells: xs,
-        method,
-        mode,
-        count: n,
-    }
-}
-
 // ---- its numbers, each of which is one byte
 
 fn number(b: u8) -> u32
@@ -307,24 +251,6 @@ pub fn cell_count(b: &[u8]) -> usize
 
 // ---- writing
 
-fn method_byte(m: InputMethod) -> u8
-    ensures { λ r. ⌜ r ≡ methodByte m ⌝ }
-{
-    match m {
-        InputMethod::Telex => 0,
-        InputMethod::Vni => 1,
-    }
-}
-
-fn mode_byte(m: Mode) -> u8
-    ensures { λ r. ⌜ r ≡ modeByte m ⌝ }
-{
-    match m {
-        Mode::Vietnamese => 0,
-        Mode::English => 1,
-    }
-}
-
 fn flag_byte(on: bool) -> u8
     ensures { λ r. ⌜ r ≡ flagByte on ⌝ }
 {
@@ -348,20 +274,6 @@ fn put_cell(b: &mut [u8], at: usize, x: Cell)
     b[at + 7] = flag_byte(x.upper);
 }
 
-fn put_cells(c: Composition, b: &mut [u8])
-    requires { ⌜ (length (now b) ≡ size) × (c .count ≤ limit) ⌝ }
-    ensures { λ _. ⌜ (length (now (b .exit)) ≡ size)
-        × (now (b .exit) ≡ (take head (now (b .entry)) ++ cellsBytes (used c)) ++ drop (start (c .count)) (now (b .entry))) ⌝ }
-{
-    let n = c.count;
-    let mut i: usize = 0;
-    while i < n {
-        let x = c.cells[i];
-        put_cell(b, HEAD + 8 * i, x);
-        i += 1;
-    }
-}
-
 pub fn put_zeros(b: &mut [u8], at: usize, end: usize)
     requires { ⌜ (at ≤ end) × (end ≤ length (now b)) ⌝ }
     ensures { λ _. ⌜ now (b .exit) ≡ take at (now (b .entry)) ++ (zeros (end - at) ++ drop end (now (b .entry))) ⌝ }
@@ -371,22 +283,6 @@ pub fn put_zeros(b: &mut [u8], at: usize, end: usize)
         b[i] = 0;
         i += 1;
     }
-}
-
-// Writes a composition whose cells past the count are blank: only the cells in use one by one.
-pub fn encode(c: Composition, b: &mut [u8])
-    requires { ⌜ (length (now b) ≡ size) × (c ≡ holding c (used c)) ⌝ }
-    ensures { λ _. ⌜ now (b .exit) ≡ bytesOf c ⌝ }
-{
-    let m = c.method;
-    let o = c.mode;
-    let n = c.count;
-    b[0] = method_byte(m);
-    b[1] = mode_byte(o);
-    b[2] = n as u8;
-    put_zeros(b, KNOWN, HEAD);
-    put_cells(c, b);
-    put_zeros(b, HEAD + 8 * n, SIZE);
 }
 
 // ---- the cells where they lie
