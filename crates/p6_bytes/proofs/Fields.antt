@@ -3,7 +3,8 @@ use Prim.Native.Nat.{ℕ}
 use mathlib.Core.Path.{_≡_, sym, _∙_}
 use mathlib.Core.Bool.{true}
 use mathlib.Core.List.{List}
-use Rattle.p6_bytes.specs.Bytes.{methodByte, modeByte, byteAt, compositionOf, bytesSound}
+use Rattle.p6_bytes.specs.Bytes.{methodByte, modeByte, compositionOf, bytesSound}
+use Rattle.p6_zeros.specs.Zeros.{byteAt}
 use Rattle.p6_bytes.proofs.Sound.{sound-method, sound-mode}
 use Rattle.p6_bytes.proofs.Round.{method-forth, mode-forth}
 

@@ -17,9 +17,6 @@ mode-number-only κs a asked z z′ w w′ q q′ = (alike q q′, refl)
 pub cell-count-only : OneAnswerAsked own.cell_count.Kinds.ps own.cell_count.Kinds.r own.cell_count.Reads.Asked own.cell_count.Reads.Learnt
 cell-count-only κs a asked z z′ w w′ q q′ = (alike q q′, refl)
 
-pub put-zeros-only : OneAnswerAsked own.put_zeros.Kinds.ps own.put_zeros.Kinds.r own.put_zeros.Reads.Asked own.put_zeros.Reads.Learnt
-put-zeros-only κs a asked z z′ w w′ q q′ = (refl, λ i. (alike q q′ i, (tt, (tt, tt))))
-
 pub cell-only : OneAnswerAsked own.cell.Kinds.ps own.cell.Kinds.r own.cell.Reads.Asked own.cell.Reads.Learnt
 cell-only κs a asked z z′ w w′ q q′ = (alike q q′, refl)
 

@@ -8,7 +8,8 @@ use lib.ListN.{length, getD}
 use Rattle.p0_choice.proofs.Choices.{picks}
 use Rattle.p2_input_method.specs.declared.InputMethod.the-variants.{Telex, Vni}
 use Rattle.p3_cells.specs.Cells.{blank}
-use Rattle.p6_bytes.specs.Bytes.{byteAt, cellAt, cellsAt, methodOf}
+use Rattle.p6_bytes.specs.Bytes.{cellAt, cellsAt, methodOf}
+use Rattle.p6_zeros.specs.Zeros.{byteAt}
 
 -- what stands at the eight places is the cell
 pub cell-read : (b : List ℕ) (at base mark : ℕ)

@@ -18,8 +18,10 @@ use Rattle.p3_cells.specs.declared.Mode.{Mode}
 use Rattle.p3_cells.specs.declared.Mode.the-variants.{Vietnamese, English}
 use Rattle.p0_choice.proofs.Tests.{each-from}
 use Rattle.p3_cells.proofs.Soundness.{sound-length}
-use Rattle.p6_bytes.specs.Bytes.{head, known, size, methodByte, modeByte, flagByte, cellBytes, cellsBytes, zeros, headBytes, bytesOf}
-use Rattle.p6_bytes.specs.Bytes.{byteAt, cellAt, cellsAt, methodOf, modeOf, compositionOf, spellsCell, isZero, reservedZero}
+use Rattle.p6_bytes.specs.Bytes.{head, known, size, methodByte, modeByte, flagByte, cellBytes, cellsBytes, headBytes, bytesOf}
+use Rattle.p6_zeros.specs.Zeros.{zeros}
+use Rattle.p6_bytes.specs.Bytes.{cellAt, cellsAt, methodOf, modeOf, compositionOf, spellsCell, reservedZero}
+use Rattle.p6_zeros.specs.Zeros.{byteAt, isZero}
 use Rattle.p6_bytes.specs.Bytes.{bytesSound}
 use Rattle.p6_bytes.proofs.Writing.{cell-length, bytes-length}
 use Rattle.p6_bytes.proofs.Sound.{sound-size, sound-method, sound-mode, sound-reserved, sound-flag}

@@ -18,9 +18,12 @@ use Rattle.p3_cells.specs.declared.Cell.{Cell}
 use Rattle.p0_choice.proofs.Numbers.{below-or-not}
 use Rattle.p0_choice.proofs.Tests.{both-are, are-both, holds, each-from}
 use Rattle.p3_cells.proofs.Soundness.{sound-is, is-sound, cell-is, is-cell}
-use Rattle.p6_bytes.specs.Bytes.{head, known, start, size, byteAt, cellAt, compositionOf, spellsCell}
-use Rattle.p6_bytes.specs.Bytes.{isZero, reservedZero, bytesSound}
-use Rattle.p6_bytes.specs.Mirror.{cellFits, cellsFit, zeroIn, zeroFrom}
+use Rattle.p6_bytes.specs.Bytes.{head, known, start, size, cellAt, compositionOf, spellsCell}
+use Rattle.p6_zeros.specs.Zeros.{byteAt}
+use Rattle.p6_bytes.specs.Bytes.{reservedZero, bytesSound}
+use Rattle.p6_zeros.specs.Zeros.{isZero}
+use Rattle.p6_bytes.specs.Mirror.{cellFits, cellsFit}
+use Rattle.p6_zeros.specs.Mirror.{zeroIn, zeroFrom}
 use Rattle.p6_bytes.proofs.Reading.{cells-length, cells-at}
 
 each-is : (p : ℕ → Bool) (n i : ℕ) → each p (from n i) ≡ true → (j : ℕ) → i ≤ j → j < i + n → p j ≡ true

@@ -12,8 +12,10 @@ use Rattle.p3_cells.specs.Cells.{limit, blank, blanks}
 use Rattle.p3_cells.specs.declared.Cell.{Cell}
 use Rattle.p3_cells.specs.declared.Composition.{Composition}
 use Rattle.p3_cells.specs.declared.Mode.{Mode}
-use Rattle.p6_bytes.specs.Bytes.{head, start, size, methodByte, modeByte, cellBytes, cellsBytes, zeros, headBytes, bytesOf}
-use Rattle.p6_bytes.specs.Bytes.{byteAt, cellAt, compositionOf, bytesSound}
+use Rattle.p6_bytes.specs.Bytes.{head, start, size, methodByte, modeByte, cellBytes, cellsBytes, headBytes, bytesOf}
+use Rattle.p6_zeros.specs.Zeros.{zeros}
+use Rattle.p6_bytes.specs.Bytes.{cellAt, compositionOf, bytesSound}
+use Rattle.p6_zeros.specs.Zeros.{byteAt}
 use Rattle.p6_bytes.specs.Mirror.{stored}
 use Rattle.p6_bytes.proofs.Reading.{cells-length, cells-at}
 use Rattle.p6_bytes.proofs.Round.{written-back}

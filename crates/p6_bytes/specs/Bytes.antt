@@ -5,7 +5,7 @@ use Prim.Native.Nat.{ℕ, zero, suc, _+_, _*_, _-_, _/_, _%_}
 use mathlib.Core.Bool.{Bool, false}
 use mathlib.Core.List.{List, [], _∷_, _++_}
 use lib.Dec.{eqb, leb}
-use lib.ListN.{length, getD, replicate}
+use lib.ListN.{length}
 use Rattle.p0_choice.specs.Choice.{pick, each, from}
 use Rattle.p2_input_method.specs.declared.InputMethod.{InputMethod}
 use Rattle.p2_input_method.specs.declared.InputMethod.the-variants.{Telex, Vni}
@@ -14,6 +14,7 @@ use Rattle.p3_cells.specs.declared.Cell.{Cell}
 use Rattle.p3_cells.specs.declared.Composition.{Composition}
 use Rattle.p3_cells.specs.declared.Mode.{Mode}
 use Rattle.p3_cells.specs.declared.Mode.the-variants.{Vietnamese, English}
+use Rattle.p6_zeros.specs.Zeros.{zeros, byteAt, isZero}
 
 abbrev pub head : ℕ
 head = 8
@@ -50,9 +51,6 @@ abbrev pub cellsBytes : List Cell → List ℕ
 cellsBytes [] = []
 cellsBytes (x ∷ xs) = cellBytes x ++ cellsBytes xs
 
-abbrev pub zeros : ℕ → List ℕ
-zeros n = replicate {A = ℕ} n 0
-
 unfoldable pub headBytes : Composition → List ℕ
 headBytes c = methodByte (c .method) ∷ modeByte (c .mode) ∷ c .count ∷ zeros (head - known)
 
@@ -60,9 +58,6 @@ unfoldable pub bytesOf : Composition → List ℕ
 bytesOf c = headBytes c ++ cellsBytes (c .cells)
 
 -- ---- and read
-abbrev pub byteAt : List ℕ → ℕ → ℕ
-byteAt b i = getD b i 0
-
 unfoldable pub cellAt : List ℕ → ℕ → Cell
 cellAt b at =
     record {
@@ -90,9 +85,6 @@ compositionOf b =
 -- a flag that is neither on nor off spells no cell
 unfoldable pub spellsCell : List ℕ → ℕ → Bool
 spellsCell b i = leb (byteAt b (start i + 7)) 1
-
-unfoldable pub isZero : List ℕ → ℕ → Bool
-isZero b i = eqb (byteAt b i) 0
 
 -- the reserved bytes are 0
 unfoldable pub reservedZero : List ℕ → Bool

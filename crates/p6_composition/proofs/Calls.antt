@@ -13,7 +13,8 @@ use Rattle.p0_refusals.specs.declared.Refusal.the-variants.{Unsound}
 use Rattle.p3_calls.specs.Settings.{empty, created}
 use Rattle.p3_cells.specs.declared.After.{After}
 use Rattle.p3_cells.specs.declared.Mode.the-variants.{Vietnamese}
-use Rattle.p6_bytes.specs.Bytes.{size, zeros, methodOf, bytesSound}
+use Rattle.p6_bytes.specs.Bytes.{size, methodOf, bytesSound}
+use Rattle.p6_zeros.specs.Zeros.{zeros}
 use Rattle.p6_bytes.proofs.Round.{method-forth}
 use Rattle.p6_bytes.proofs.Sound.{sound-size}
 use Rattle.p6_bytes.proofs.Stored.{emptied}

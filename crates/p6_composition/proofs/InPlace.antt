@@ -33,7 +33,8 @@ use Rattle.p3_calls.proofs.Literal.{literal-foreign, literal-full, literal-done
 use Rattle.p3_calls.proofs.Output.{text-short, text-short-out, text-done, text-done-out, removal-empty, removal-empty-out, removal-short}
 use Rattle.p3_calls.proofs.Output.{removal-short-out, removal-done, removal-done-out}
 use Rattle.p3_calls.proofs.Settings.{set-done, turned-off, turned-on}
-use Rattle.p6_bytes.specs.Bytes.{size, methodByte, modeByte, byteAt, zeros, bytesOf, compositionOf, methodOf, bytesSound}
+use Rattle.p6_bytes.specs.Bytes.{size, methodByte, modeByte, bytesOf, compositionOf, methodOf, bytesSound}
+use Rattle.p6_zeros.specs.Zeros.{byteAt, zeros}
 use Rattle.p6_bytes.specs.Mirror.{stored}
 use Rattle.p6_bytes.proofs.Fields.{method-field, mode-field}
 use Rattle.p6_bytes.proofs.Round.{read-written, method-forth}

@@ -40,7 +40,8 @@ use Rattle.p3_step.specs.declared.Change.the-variants.{Nothing, Append}
 use Rattle.p3_step.specs.declared.Step.{Step}
 use Rattle.p3_step.proofs.Makes.{Makes, step-makes}
 use Rattle.p3_step.proofs.Same.{step-same}
-use Rattle.p6_bytes.specs.Bytes.{methodByte, modeByte, byteAt, bytesOf, compositionOf, methodOf, bytesSound}
+use Rattle.p6_bytes.specs.Bytes.{methodByte, modeByte, bytesOf, compositionOf, methodOf, bytesSound}
+use Rattle.p6_zeros.specs.Zeros.{byteAt}
 use Rattle.p6_bytes.specs.Mirror.{stored}
 use Rattle.p6_bytes.proofs.Round.{read-written, method-back}
 use Rattle.p6_bytes.proofs.Sound.{sound-composition}

@@ -33,7 +33,8 @@ use Rattle.p3_undo.specs.declared.Undoing.the-variants.{Nothing, Tone, Mark}
 use Rattle.p3_undo.proofs.Call.{undo-nothing, undo-toneless, undo-restored, undo-long, undo-foreign, undo-raw, undo-done}
 use Rattle.p3_undo.proofs.Found.{tone-place, mark-place}
 use Rattle.p3_undo.proofs.Signs.{Signed, signed-none, signed-more, signed-all, row-finds}
-use Rattle.p6_bytes.specs.Bytes.{byteAt, methodByte, bytesOf, compositionOf, methodOf, bytesSound}
+use Rattle.p6_bytes.specs.Bytes.{methodByte, bytesOf, compositionOf, methodOf, bytesSound}
+use Rattle.p6_zeros.specs.Zeros.{byteAt}
 use Rattle.p6_bytes.specs.Mirror.{stored}
 use Rattle.p6_bytes.proofs.Sound.{sound-composition}
 use Rattle.p6_bytes.proofs.Stored.{cells-all, cell-stored, lent}

@@ -34,6 +34,7 @@ use p3_undo as undo;
 use p3_undo::TelexUndo;
 use p3_undo::Undoing;
 use p6_bytes as bytes;
+use p6_zeros as zeros;
 
 // The text of the first n cells, from the start of an output that has room for it.
 fn text(b: &[u8], n: usize, out: &mut [u32])
@@ -142,7 +143,7 @@ pub fn reset(state: &mut [u8]) -> Answer
     if !bytes::bytes_ok(state) {
         return Answer::Refused(Refusal::Unsound);
     }
-    bytes::put_zeros(state, 2, bytes::SIZE);
+    zeros::put_zeros(state, 2, bytes::SIZE);
     Answer::Done(0)
 }
 
@@ -309,7 +310,7 @@ pub fn set_method(state: &mut [u8], method: u32) -> Answer
         return Answer::Refused(Refusal::Unsound);
     }
     state[0] = method as u8;
-    bytes::put_zeros(state, 2, bytes::SIZE);
+    zeros::put_zeros(state, 2, bytes::SIZE);
     Answer::Done(0)
 }
 
@@ -327,7 +328,7 @@ pub fn set_mode(state: &mut [u8], mode: u32) -> Answer
     if mode == 0 {
         return Answer::Done(0);
     }
-    bytes::put_zeros(state, 2, bytes::SIZE);
+    zeros::put_zeros(state, 2, bytes::SIZE);
     Answer::Done(0)
 }
 
@@ -342,6 +343,6 @@ pub fn new(state: &mut [u8], method: u32) -> Answer
         return Answer::Refused(Refusal::Unsound);
     }
     state[0] = method as u8;
-    bytes::put_zeros(state, 1, bytes::SIZE);
+    zeros::put_zeros(state, 1, bytes::SIZE);
     Answer::Done(0)
 }

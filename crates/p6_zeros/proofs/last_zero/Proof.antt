@@ -1,7 +1,7 @@
 use borrow.Author.Needs.{needs}
-use Rattle.p6_bytes.proofs.Tests.{below}
-use Rattle.p6_bytes.proofs.last_zero.Statement.{statement}
-use Rattle.p6_bytes.proofs.last_zero.Tie as tie
+use Rattle.p6_zeros.proofs.Zeros.{below}
+use Rattle.p6_zeros.proofs.last_zero.Statement.{statement}
+use Rattle.p6_zeros.proofs.last_zero.Tie as tie
 
 ruleset answers = (needs, below)
 

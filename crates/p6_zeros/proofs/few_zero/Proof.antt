@@ -5,10 +5,10 @@ use mathlib.Core.Bool.{false}
 use lib.Dec.{eqb}
 use lib.ListN.{length}
 use Rattle.p0_choice.specs.Choice.{pick}
-use Rattle.p6_bytes.specs.Mirror.{zeroIn, zeroFrom}
-use Rattle.p6_bytes.proofs.Zeros.{few-start, few-on, few-done}
-use Rattle.p6_bytes.proofs.few_zero.Statement.{statement}
-use Rattle.p6_bytes.proofs.few_zero.Tie as tie
+use Rattle.p6_zeros.specs.Mirror.{zeroIn, zeroFrom}
+use Rattle.p6_zeros.proofs.Zeros.{few-start, few-on, few-done}
+use Rattle.p6_zeros.proofs.few_zero.Statement.{statement}
+use Rattle.p6_zeros.proofs.few_zero.Tie as tie
 
 abbrev Inv-loop : tie.InvT-loop
 Inv-loop b at most₀ i₀ most i = (i ≤ length b) × (zeroFrom b at ≡ pick (eqb most 0) (zeroIn b (length b - i) i) false)

@@ -3,10 +3,10 @@ use Prim.Native.Nat.{_≤_, _-_, _+_}
 use mathlib.Core.Path.{_≡_, refl}
 use mathlib.Core.Bool.{true}
 use lib.ListN.{length}
-use Rattle.p6_bytes.specs.Mirror.{zeroIn}
-use Rattle.p6_bytes.proofs.Zeros.{from-start, from-on, from-bad, from-done}
-use Rattle.p6_bytes.proofs.zero_from.Statement.{statement}
-use Rattle.p6_bytes.proofs.zero_from.Tie as tie
+use Rattle.p6_zeros.specs.Mirror.{zeroIn}
+use Rattle.p6_zeros.proofs.Zeros.{from-start, from-on, from-bad, from-done}
+use Rattle.p6_zeros.proofs.zero_from.Statement.{statement}
+use Rattle.p6_zeros.proofs.zero_from.Tie as tie
 
 abbrev Inv-loop : tie.InvT-loop
 Inv-loop b at n last i₀ i = (at ≤ last) × (last + 128 ≡ length b) × (at ≤ i) × (zeroIn b (i - at) at ≡ true)

@@ -1,7 +1,7 @@
 use borrow.Author.Needs.{needs}
-use Rattle.p6_bytes.proofs.Tests.{long-read}
-use Rattle.p6_bytes.proofs.long_at.Statement.{statement}
-use Rattle.p6_bytes.proofs.long_at.Tie as tie
+use Rattle.p6_zeros.proofs.Zeros.{long-read}
+use Rattle.p6_zeros.proofs.long_at.Statement.{statement}
+use Rattle.p6_zeros.proofs.long_at.Tie as tie
 
 ruleset answers = (needs, long-read)
 

@@ -3,10 +3,10 @@ use Prim.Native.Nat.{_≤_, _-_}
 use mathlib.Core.Path.{_≡_, refl}
 use mathlib.Core.List.{_++_}
 use lib.ListN.{length, take, drop}
-use Rattle.p6_bytes.specs.Bytes.{zeros}
-use Rattle.p6_bytes.proofs.Writing.{zeros-start, zeros-on, zeros-done}
-use Rattle.p6_bytes.proofs.put_zeros.Statement.{statement}
-use Rattle.p6_bytes.proofs.put_zeros.Tie as tie
+use Rattle.p6_zeros.specs.Zeros.{zeros}
+use Rattle.p6_zeros.proofs.Writing.{zeros-start, zeros-on, zeros-done}
+use Rattle.p6_zeros.proofs.put_zeros.Statement.{statement}
+use Rattle.p6_zeros.proofs.put_zeros.Tie as tie
 
 abbrev Inv-loop : tie.InvT-loop
 Inv-loop b₀ at end i₀ b i = (at ≤ i) × (i ≤ end) × (length b ≡ length b₀) × (b ≡ take at b₀ ++ (zeros (i - at) ++ drop i b₀))

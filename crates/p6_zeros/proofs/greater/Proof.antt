@@ -1,7 +1,7 @@
 use borrow.Author.Needs.{needs}
-use Rattle.p6_bytes.proofs.Zeros.{greater-right, greater-left}
-use Rattle.p6_bytes.proofs.greater.Statement.{statement}
-use Rattle.p6_bytes.proofs.greater.Tie as tie
+use Rattle.p6_zeros.proofs.Zeros.{greater-right, greater-left}
+use Rattle.p6_zeros.proofs.greater.Statement.{statement}
+use Rattle.p6_zeros.proofs.greater.Tie as tie
 
 ruleset answers = (needs, greater-right, greater-left)
 
