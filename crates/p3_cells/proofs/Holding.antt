@@ -8,9 +8,11 @@ use lib.ListN.{length, getD, take, drop, set, length-append, length-drop, length
 use lib.ListN.{drop-of-length-le, List·getD-append}
 use lib.Seq.{length-take-le, take-append-seam, getD-take, getD-drop, getD-append-add, set-append-left, set-split, set-at, ext-getD}
 use Rattle.p0_choice.specs.Choice.{each}
-use Rattle.p3_cells.specs.Cells.{limit, blank, blanks, isCell, isSound, used, holding}
+use Rattle.p3_cells.specs.Cells.{limit, blank, blanks, isCell, isSound, used, composed, holding}
+use Rattle.p3_cells.specs.Mirror.{cellOf, withCell, withCount}
 use Rattle.p3_cells.specs.declared.Cell.{Cell}
 use Rattle.p3_cells.specs.declared.Composition.{Composition}
+use Rattle.p3_cells.specs.declared.Settings.{Settings}
 use Rattle.p0_choice.proofs.Tests.{each-at, at-each}
 use Rattle.p3_cells.proofs.Soundness.{sound-is, is-sound, cell-is, is-cell, sound-length}
 
@@ -38,7 +40,7 @@ pub used-few : (c : Composition) → length (used c) ≤ c .count
 unfolding used
 used-few c = omega (arith, length-take (c .count) (c .cells))
 
-pub used-at : (c : Composition) (i : ℕ) → i < c .count → getD (used c) i blank ≡ getD (c .cells) i blank
+pub used-at : (c : Composition) (i : ℕ) → i < c .count → getD (used c) i blank ≡ cellOf c i
 unfolding used
 used-at c i h = getD-take (c .count) (c .cells) i blank h
 
@@ -46,8 +48,8 @@ module _ (c : Composition) (s : isSound c ≡ true) where
   pub count-fits : c .count ≤ limit
   count-fits = sound-is c s .few
 
-  pub cell-fits : (i : ℕ) → i < c .count → isCell (getD (c .cells) i blank) ≡ true
-  cell-fits i h = is-cell (getD (c .cells) i blank) (sound-is c s .inUse i h)
+  pub cell-fits : (i : ℕ) → i < c .count → isCell (cellOf c i) ≡ true
+  cell-fits i h = is-cell (cellOf c i) (sound-is c s .inUse i h)
 
   pub used-length : length (used c) ≡ c .count
   used-length = used-count c (omega (arith, count-fits, sound-length c s))
@@ -67,46 +69,38 @@ module _ (c : Composition) (s : isSound c ≡ true) where
   pub used-cells : each isCell (used c) ≡ true
   used-cells = let u = used-length in at-each isCell blank (used c) (λ i h. rw (used-at c i (omega arith)) (cell-fits i (omega arith)))
 
--- ---- what a composition holds
--- d is c but for its cells, which are xs and blank ones
-pub made : (c : Composition) (xs cells : List Cell) (k : ℕ) → cells ≡ xs ++ blanks (limit - k) → length xs ≡ k
-    → record { cells = cells; method = c .method; mode = c .mode; count = k } ≡ holding c xs
-unfolding holding
-made c xs cells k e l = rw (e, ← l) refl
+-- ---- a composition of settings and cells
+-- cells that are xs and blank ones
+pub made : (z : Settings) (xs cells : List Cell) (k : ℕ) → cells ≡ xs ++ blanks (limit - k) → length xs ≡ k
+    → record { cells = cells; settings = z; count = k } ≡ composed z xs
+unfolding composed
+made z xs cells k e l = rw (e, ← l) refl
 
-pub holding-again : (c : Composition) (xs ys : List Cell) → holding (holding c xs) ys ≡ holding c ys
-unfolding holding
-holding-again c xs ys = refl
+pub settings-held : (z : Settings) (xs : List Cell) → composed z xs .settings ≡ z
+unfolding composed
+settings-held z xs = refl
 
-pub method-held : (c : Composition) (xs : List Cell) → holding c xs .method ≡ c .method
-unfolding holding
-method-held c xs = refl
+pub count-held : (z : Settings) (xs : List Cell) → composed z xs .count ≡ length xs
+unfolding composed
+count-held z xs = refl
 
-pub mode-held : (c : Composition) (xs : List Cell) → holding c xs .mode ≡ c .mode
-unfolding holding
-mode-held c xs = refl
+pub cells-held : (z : Settings) (xs : List Cell) → composed z xs .cells ≡ xs ++ blanks (limit - length xs)
+unfolding composed
+cells-held z xs = refl
 
-pub count-held : (c : Composition) (xs : List Cell) → holding c xs .count ≡ length xs
-unfolding holding
-count-held c xs = refl
+pub used-held : (z : Settings) (xs : List Cell) → used (composed z xs) ≡ xs
+unfolding used composed
+used-held z xs = take-append-seam xs (blanks (limit - length xs))
 
-pub cells-held : (c : Composition) (xs : List Cell) → holding c xs .cells ≡ xs ++ blanks (limit - length xs)
-unfolding holding
-cells-held c xs = refl
+pub length-held : (z : Settings) (xs : List Cell) → length xs ≤ limit → length (composed z xs .cells) ≡ limit
+unfolding composed
+length-held z xs h = rw (length-append, length-blanks) (omega arith)
 
-pub used-holding : (c : Composition) (xs : List Cell) → used (holding c xs) ≡ xs
-unfolding used holding
-used-holding c xs = take-append-seam xs (blanks (limit - length xs))
-
-pub length-holding : (c : Composition) (xs : List Cell) → length xs ≤ limit → length (holding c xs .cells) ≡ limit
-unfolding holding
-length-holding c xs h = rw (length-append, length-blanks) (omega arith)
-
-pub holding-sound : (c : Composition) (xs : List Cell) → length xs ≤ limit → each isCell xs ≡ true → isSound (holding c xs) ≡ true
-unfolding holding
-holding-sound c xs h e =
-    is-sound (holding c xs) (record {
-      whole = length-holding c xs h;
+pub composed-sound : (z : Settings) (xs : List Cell) → length xs ≤ limit → each isCell xs ≡ true → isSound (composed z xs) ≡ true
+unfolding composed
+composed-sound z xs h e =
+    is-sound (composed z xs) (record {
+      whole = length-held z xs h;
       few = h;
       inUse = λ i l. rw (List·getD-append xs (blanks (limit - length xs)) blank i l)
           (cell-is (getD xs i blank) (each-at isCell blank xs e i l));
@@ -115,26 +109,28 @@ holding-sound c xs h e =
     })
 
 module _ (c : Composition) (s : isSound c ≡ true) where
+  -- the same cells, under other settings
+  pub holding-under : (z : Settings) → record { cells = c .cells; settings = z; count = c .count } ≡ composed z (used c)
+  holding-under z = made z (used c) (c .cells) (c .count) (parted c s) (used-length c s)
+
   pub holding-used : c ≡ holding c (used c)
-  holding-used = made c (used c) (c .cells) (c .count) (parted c s) (used-length c s)
+  holding-used = holding-under (c .settings)
 
   -- another cell at a place in use
-  pub holding-set : (i : ℕ) (x : Cell) → i < c .count
-      → record { cells = set (c .cells) i x; method = c .method; mode = c .mode; count = c .count } ≡ holding c (set (used c) i x)
+  pub holding-set : (i : ℕ) (x : Cell) → i < c .count → withCell c i x ≡ holding c (set (used c) i x)
   holding-set i x h =
       let u = used-length c s in
-      made c (set (used c) i x) (set (c .cells) i x) (c .count)
+      made (c .settings) (set (used c) i x) (set (c .cells) i x) (c .count)
       (ap (λ (l : List Cell). set l i x) (parted c s) ∙ set-append-left (used c) (blanks (limit - c .count)) i x (omega arith))
       (length-set (used c) i x ∙ u)
 
   -- one more cell
   pub holding-append : (x : Cell) → c .count < limit
-      → record { cells = set (c .cells) (c .count) x; method = c .method; mode = c .mode; count = c .count + 1 } ≡ holding c
-      (used c ++ (x ∷ []))
+      → withCount (withCell c (c .count) x) (c .count + 1) ≡ holding c (used c ++ (x ∷ []))
   holding-append x h =
       let u = used-length c s in
       let d : limit - c .count ≡ suc (limit - (c .count + 1)) = omega arith in
-      made c (used c ++ (x ∷ [])) (set (c .cells) (c .count) x) (c .count + 1)
+      made (c .settings) (used c ++ (x ∷ [])) (set (c .cells) (c .count) x) (c .count + 1)
       (ap (λ (l : List Cell). set l (c .count) x) (parted c s ∙ ap (λ (m : ℕ). used c ++ blanks m) d)
       ∙ set-at (used c) blank (blanks (limit - (c .count + 1))) x (c .count) u
       ∙ sym (append-assoc (used c) (x ∷ []) (blanks (limit - (c .count + 1)))))
@@ -142,8 +138,7 @@ module _ (c : Composition) (s : isSound c ≡ true) where
 
   -- one cell less, "Removing the last cell blanks it."
   pub holding-less : 0 < c .count
-      → record { cells = set (c .cells) (c .count - 1) blank; method = c .method; mode = c .mode; count = c .count - 1 } ≡ holding c
-      (take (c .count - 1) (used c))
+      → withCount (withCell c (c .count - 1) blank) (c .count - 1) ≡ holding c (take (c .count - 1) (used c))
   holding-less h =
       let u = used-length c s in
       let f = count-fits c s in
@@ -151,7 +146,7 @@ module _ (c : Composition) (s : isSound c ≡ true) where
       let d : limit - (c .count - 1) ≡ suc (limit - c .count) = omega arith in
       let m : length (used c) ≤ suc (c .count - 1) = omega arith in
       let z : drop (suc (c .count - 1)) (used c) ≡ [] = drop-of-length-le (used c) m in
-      made c (take (c .count - 1) (used c)) (set (c .cells) (c .count - 1) blank) (c .count - 1)
+      made (c .settings) (take (c .count - 1) (used c)) (set (c .cells) (c .count - 1) blank) (c .count - 1)
       (ap (λ (l : List Cell). set l (c .count - 1) blank) (parted c s)
       ∙ set-append-left (used c) (blanks (limit - c .count)) (c .count - 1) blank l
       ∙ ap (λ (l : List Cell). l ++ blanks (limit - c .count))
