@@ -19,6 +19,7 @@ use Rattle.p2_input_method.specs.declared.InputMethod.{InputMethod}
 use Rattle.p2_input_method.specs.declared.InputMethod.the-variants.{Telex, Vni}
 use Rattle.p2_input_method.specs.declared.MarkRule.{MarkRule}
 use Rattle.p3_cells.specs.Cells.{blank, marks, isCell, isSound, used}
+use Rattle.p3_cells.specs.Mirror.{cellOf, firstCells}
 use Rattle.p3_cells.specs.declared.Cell.{Cell}
 use Rattle.p3_cells.specs.declared.Composition.{Composition}
 use Rattle.p3_cells.proofs.Holding.{used-cells}
@@ -28,24 +29,24 @@ use Rattle.p3_undo.specs.Undo.{lastWith, hasTone, hasMark, ruleAt, byRul
 use Rattle.p3_undo.specs.declared.Undoing.{Undoing}
 
 -- ---- the first i of a row are the cells' signs
-unfoldable pub Signed : List Cell → List ℕ → ℕ → Type 0
-Signed cs row i = take i row ≡ signs (take i cs)
+unfoldable pub Signed : Composition → List ℕ → ℕ → Type 0
+Signed c row i = take i row ≡ signs (firstCells c i)
 
-pub signed-none : (cs : List Cell) (row : List ℕ) → Signed cs row 0
+pub signed-none : (c : Composition) (row : List ℕ) → Signed c row 0
 unfolding Signed signs
-signed-none cs row = refl
+signed-none c row = refl
 
-pub signed-more : (cs : List Cell) (row : List ℕ) (i n v : ℕ) (x : Cell) → Signed cs row i → x ≡ getD cs i blank → v ≡ sign x
-    → i < n → n ≤ length row → n ≤ length cs → Signed cs (set row i v) (i + 1)
+pub signed-more : (c : Composition) (row : List ℕ) (i n v : ℕ) (x : Cell) → Signed c row i → x ≡ cellOf c i → v ≡ sign x
+    → i < n → n ≤ length row → n ≤ length (c .cells) → Signed c (set row i v) (i + 1)
 unfolding Signed signs
-signed-more cs row i n v x e p q h k l =
+signed-more c row i n v x e p q h k l =
     let a : i < length row = omega arith in
-    let b : i < length cs = omega arith in
-    rw (add-one i, take-suc-set row i v a, take-suc cs i blank b, map-append sign (take i cs) (getD cs i blank ∷ []), e, q, p) refl
+    let b : i < length (c .cells) = omega arith in
+    rw (add-one i, take-suc-set row i v a, take-suc (c .cells) i blank b, map-append sign (firstCells c i) (cellOf c i ∷ []), e, q, p) refl
 
-pub signed-all : (cs : List Cell) (row : List ℕ) (i n : ℕ) → Signed cs row i → i ≤ n → n ≤ i → take n row ≡ signs (take n cs)
+pub signed-all : (c : Composition) (row : List ℕ) (i n : ℕ) → Signed c row i → i ≤ n → n ≤ i → take n row ≡ signs (firstCells c n)
 unfolding Signed
-signed-all cs row i n e l h = let z : i ≡ n = omega arith in rw z at e
+signed-all c row i n e l h = let z : i ≡ n = omega arith in rw z at e
 
 -- ---- what a finder reads
 pub row-length : (row : List ℕ) → length (signCells row) ≡ length row
@@ -107,10 +108,11 @@ module _ (cs : List Cell) (e : each isCell cs ≡ true) where
   undo-same Vni raw t = refl
 
 -- what the part of a row in use finds is what the cells in use do
-pub row-finds : (c : Composition) → isSound c ≡ true → (m : InputMethod) (row part raw : List ℕ) (t : ℕ) (u : Undoing) → m ≡ c .method
-    → take (c .count) row ≡ signs (take (c .count) (c .cells)) → part ≡ take (c .count - 0) (drop 0 row)
-    → u ≡ toUndo m (signCells part) raw t → u ≡ toUndo (c .method) (used c) raw t
+pub row-finds : (c : Composition) → isSound c ≡ true → (m : InputMethod) (row part raw : List ℕ) (t : ℕ) (u : Undoing)
+    → m ≡ c .settings .method
+    → take (c .count) row ≡ signs (firstCells c (c .count)) → part ≡ take (c .count - 0) (drop 0 row)
+    → u ≡ toUndo m (signCells part) raw t → u ≡ toUndo (c .settings .method) (used c) raw t
 unfolding used
 row-finds c s m row part raw t u p f g h =
     let d : c .count - 0 ≡ c .count = omega arith in
-    h ∙ rw (p, g, d, f) (undo-same (used c) (used-cells c s) (c .method) raw t)
+    h ∙ rw (p, g, d, f) (undo-same (used c) (used-cells c s) (c .settings .method) raw t)

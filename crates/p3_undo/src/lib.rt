@@ -274,7 +274,7 @@ pub fn behaviour(rule: MarkRule) -> TelexUndo
 
 fn find(c: Composition, raw: &[u32], t: u32) -> Undoing
     requires { ⌜ isSound c ≡ true ⌝ }
-    ensures { λ r. ⌜ r ≡ toUndo (c .method) (used c) (rawLowered (now (raw .entry))) t ⌝ }
+    ensures { λ r. ⌜ r ≡ toUndo (c .settings .method) (used c) (rawLowered (now (raw .entry))) t ⌝ }
 {
     let n = c.count;
     let mut row = [0u32; LIMIT];
@@ -284,14 +284,15 @@ fn find(c: Composition, raw: &[u32], t: u32) -> Undoing
         row[at] = sign(x);
         at += 1;
     }
-    let m = c.method;
+    let z = c.settings;
+    let m = z.method;
     to_undo(m, &row[0..n], raw, t)
 }
 
 // Stores what is found.
 fn undo_found(mut c: Composition, raw: &[u32], t: u32) -> Undone
     requires { ⌜ isSound c ≡ true ⌝ }
-    ensures { λ r. ⌜ r ≡ undoFound c (toUndo (c .method) (used c) (rawLowered (now (raw .entry))) t) ⌝ }
+    ensures { λ r. ⌜ r ≡ undoFound c (toUndo (c .settings .method) (used c) (rawLowered (now (raw .entry))) t) ⌝ }
 {
     let u = find(c, raw, t);
     match u {

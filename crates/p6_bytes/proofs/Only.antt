@@ -6,6 +6,9 @@ use Rattle.p6_bytes.proofs as own
 pub bytes-ok-only : OneAnswer own.bytes_ok.Kinds.ps own.bytes_ok.Kinds.r own.bytes_ok.Reads.Asked own.bytes_ok.Reads.Learnt
 bytes-ok-only κs a = (tt, λ z z′ w w′ q q′. (alike q q′, refl))
 
+pub settings-only : OneAnswerAsked own.settings.Kinds.ps own.settings.Kinds.r own.settings.Reads.Asked own.settings.Reads.Learnt
+settings-only κs a asked z z′ w w′ q q′ = (alike q q′, refl)
+
 pub method-number-only :
     OneAnswerAsked own.method_number.Kinds.ps own.method_number.Kinds.r own.method_number.Reads.Asked own.method_number.Reads.Learnt
 method-number-only κs a asked z z′ w w′ q q′ = (alike q q′, refl)

@@ -7,8 +7,9 @@ use lib.Dec.{eqb}
 use lib.ListN.{length, getD}
 use Rattle.p0_choice.proofs.Choices.{picks}
 use Rattle.p2_input_method.specs.declared.InputMethod.the-variants.{Telex, Vni}
+use Rattle.p3_cells.specs.declared.Mode.the-variants.{Vietnamese, English}
 use Rattle.p3_cells.specs.Cells.{blank}
-use Rattle.p6_bytes.specs.Bytes.{cellAt, cellsAt, methodOf}
+use Rattle.p6_bytes.specs.Bytes.{cellAt, cellsAt, methodOf, modeOf}
 use Rattle.p6_zeros.specs.Zeros.{byteAt}
 
 -- what stands at the eight places is the cell
@@ -29,7 +30,7 @@ cells-at (suc n) b at zero h = let e : at ≡ at + 8 * 0 = omega arith in ap (ce
 cells-at (suc n) b at (suc i) h = let e : at + 8 + 8 * i ≡ at + 8 * suc i = omega arith in
     cells-at n b (at + 8) i (omega arith) ∙ ap (cellAt b) e
 
--- ---- the method
+-- ---- method and mode
 pub method-telex : (x : ℕ) → x ≡ 0 → Telex ≡ methodOf x
 unfolding methodOf
 method-telex x h = search picks
@@ -37,3 +38,11 @@ method-telex x h = search picks
 pub method-vni : (x : ℕ) → (x ≡ 0 → ⊥) → Vni ≡ methodOf x
 unfolding methodOf
 method-vni x h = search picks
+
+pub mode-vietnamese : (x : ℕ) → x ≡ 0 → Vietnamese ≡ modeOf x
+unfolding modeOf
+mode-vietnamese x h = search picks
+
+pub mode-english : (x : ℕ) → (x ≡ 0 → ⊥) → English ≡ modeOf x
+unfolding modeOf
+mode-english x h = search picks

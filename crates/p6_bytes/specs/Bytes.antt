@@ -1,5 +1,5 @@
--- Document 01, "Port order": "the composition as bytes in an order that docs/ states". A head of 8 bytes: the method, the
--- mode, the count, and bytes kept for settings to come. Then the cells, of 8 bytes each: the base in four and the mark in two, low
+-- Document 01, "Port order": "the composition as bytes in an order that docs/ states". A head of 8 bytes: the settings
+-- (method, mode), the count, and bytes kept for settings to come. Then the cells, of 8 bytes each: the base in four and the mark in two, low
 -- byte first, the tone, the capital flag.
 use Prim.Native.Nat.{ℕ, zero, suc, _+_, _*_, _-_, _/_, _%_}
 use mathlib.Core.Bool.{Bool, false}
@@ -14,6 +14,7 @@ use Rattle.p3_cells.specs.declared.Cell.{Cell}
 use Rattle.p3_cells.specs.declared.Composition.{Composition}
 use Rattle.p3_cells.specs.declared.Mode.{Mode}
 use Rattle.p3_cells.specs.declared.Mode.the-variants.{Vietnamese, English}
+use Rattle.p3_cells.specs.declared.Settings.{Settings}
 use Rattle.p6_zeros.specs.Zeros.{zeros, byteAt, isZero}
 
 abbrev pub head : ℕ
@@ -51,8 +52,11 @@ abbrev pub cellsBytes : List Cell → List ℕ
 cellsBytes [] = []
 cellsBytes (x ∷ xs) = cellBytes x ++ cellsBytes xs
 
+abbrev pub settingsBytes : Settings → List ℕ
+settingsBytes z = methodByte (z .method) ∷ modeByte (z .mode) ∷ []
+
 unfoldable pub headBytes : Composition → List ℕ
-headBytes c = methodByte (c .method) ∷ modeByte (c .mode) ∷ c .count ∷ zeros (head - known)
+headBytes c = settingsBytes (c .settings) ++ (c .count ∷ zeros (head - known))
 
 unfoldable pub bytesOf : Composition → List ℕ
 bytesOf c = headBytes c ++ cellsBytes (c .cells)
@@ -77,9 +81,11 @@ methodOf x = pick (eqb x 0) Telex Vni
 unfoldable pub modeOf : ℕ → Mode
 modeOf x = pick (eqb x 0) Vietnamese English
 
+abbrev pub settingsOf : List ℕ → Settings
+settingsOf b = record { method = methodOf (byteAt b 0); mode = modeOf (byteAt b 1) }
+
 unfoldable pub compositionOf : List ℕ → Composition
-compositionOf b =
-    record { cells = cellsAt limit b head; method = methodOf (byteAt b 0); mode = modeOf (byteAt b 1); count = byteAt b 2 }
+compositionOf b = record { cells = cellsAt limit b head; settings = settingsOf b; count = byteAt b 2 }
 
 -- ---- "Bytes of another length, or that spell no method, mode or cell, are not sound."
 -- a flag that is neither on nor off spells no cell

@@ -3,13 +3,17 @@ ghost use mathlib.Core.Path.{_≡_};
 ghost use mathlib.Core.Bool.{true};
 ghost use mathlib.Core.List.{_++_};
 ghost use Prim.Native.Nat.{_+_, _*_, _<_, _≤_};
-ghost use lib.ListN.{length, getD, take, drop};
-ghost use Rattle.p3_cells.specs.Cells.{limit, blank};
+ghost use lib.ListN.{length, take, drop};
+ghost use Rattle.p3_cells.specs.Cells.{limit};
+ghost use Rattle.p3_cells.specs.Mirror.{cellOf};
 ghost use Rattle.p6_bytes.specs.Bytes.{size, methodByte, modeByte, flagByte, cellBytes, cellAt};
-ghost use Rattle.p6_bytes.specs.Bytes.{compositionOf, reservedZero, bytesSound};
+ghost use Rattle.p6_bytes.specs.Bytes.{methodOf, modeOf, compositionOf, reservedZero, bytesSound};
 ghost use Rattle.p6_bytes.specs.Mirror.{cellFits, cellsFit, stored};
+use p2_input_method::InputMethod;
 use p3_cells as cells;
 use p3_cells::Cell;
+use p3_cells::Mode;
+use p3_cells::Settings;
 use p6_zeros as zeros;
 
 pub const HEAD: usize = 8;
@@ -116,7 +120,34 @@ pub fn bytes_ok(b: &[u8]) -> bool
     zeros::zero_from(b, HEAD + 8 * n)
 }
 
-// ---- its numbers, each of which is one byte
+// ---- its settings and numbers, each of which is one byte
+
+fn method_of(x: u8) -> InputMethod
+    ensures { λ r. ⌜ r ≡ methodOf x ⌝ }
+{
+    if x == 0 {
+        return InputMethod::Telex;
+    }
+    InputMethod::Vni
+}
+
+fn mode_of(x: u8) -> Mode
+    ensures { λ r. ⌜ r ≡ modeOf x ⌝ }
+{
+    if x == 0 {
+        return Mode::Vietnamese;
+    }
+    Mode::English
+}
+
+pub fn settings(b: &[u8]) -> Settings
+    requires { ⌜ bytesSound (now b) ≡ true ⌝ }
+    ensures { λ r. ⌜ r ≡ compositionOf (now (b .entry)) .settings ⌝ }
+{
+    let method = method_of(b[0]);
+    let mode = mode_of(b[1]);
+    Settings { method, mode }
+}
 
 fn number(b: u8) -> u32
     ensures { λ r. ⌜ r ≡ b ⌝ }
@@ -126,14 +157,14 @@ fn number(b: u8) -> u32
 
 pub fn method_number(b: &[u8]) -> u32
     requires { ⌜ bytesSound (now b) ≡ true ⌝ }
-    ensures { λ r. ⌜ r ≡ methodByte (compositionOf (now (b .entry)) .method) ⌝ }
+    ensures { λ r. ⌜ r ≡ methodByte (compositionOf (now (b .entry)) .settings .method) ⌝ }
 {
     number(b[0])
 }
 
 pub fn mode_number(b: &[u8]) -> u32
     requires { ⌜ bytesSound (now b) ≡ true ⌝ }
-    ensures { λ r. ⌜ r ≡ modeByte (compositionOf (now (b .entry)) .mode) ⌝ }
+    ensures { λ r. ⌜ r ≡ modeByte (compositionOf (now (b .entry)) .settings .mode) ⌝ }
 {
     number(b[1])
 }
@@ -174,7 +205,7 @@ fn put_cell(b: &mut [u8], at: usize, x: Cell)
 
 pub fn cell(b: &[u8], i: usize) -> Cell
     requires { ⌜ (length (now b) ≡ size) × (i < limit) ⌝ }
-    ensures { λ r. ⌜ r ≡ getD (compositionOf (now (b .entry)) .cells) i blank ⌝ }
+    ensures { λ r. ⌜ r ≡ cellOf (compositionOf (now (b .entry))) i ⌝ }
 {
     cell_at(b, HEAD + 8 * i)
 }

@@ -11,7 +11,7 @@ use Rattle.p3_undo.proofs.find.Tie as tie
 
 abbrev Inv-loop : tie.InvT-loop
 Inv-loop raw t c n row₀ i₀ row i =
-    (i ≤ n) × (n ≤ limit) × (length row ≡ limit) × (n ≤ length row) × (n ≤ length (c .cells)) × Signed (c .cells) row i
+    (i ≤ n) × (n ≤ limit) × (length row ≡ limit) × (n ≤ length row) × (n ≤ length (c .cells)) × Signed c row i
 
 abbrev μ-loop : tie.MeasureT-loop
 μ-loop raw t c n row₀ i₀ row i = n - i
@@ -27,7 +27,7 @@ find-spec =
     (λ c. search answers) (λ c. search answers) (λ c. search answers) (λ c. search answers) (λ c. search answers) (λ c. search answers)
     (λ c κs. search answers)
     (λ c.
-    let left = c .before .before .before in
+    let left = c .before .before .before .before in
     let loop = left .before in
     let start = loop .before .before in
     row-finds (start .args .t1) (start .pre) _ (loop .loop .row) _ _ _ _ refl
