@@ -6,7 +6,8 @@ use mathlib.Core.List.{List, [], _∷_, _++_, append-assoc}
 use native.Mathlib.Omega.{arith}
 use lib.ListN.{length, getD, take, drop, set, length-append, length-drop, length-take, length-set, take-append-drop}
 use lib.ListN.{drop-of-length-le, List·getD-append}
-use lib.Seq.{length-take-le, take-append-seam, getD-take, getD-drop, getD-append-add, set-append-left, set-split, set-at, ext-getD}
+use lib.Seq.{length-take-le, take-append-seam, getD-take, getD-drop, getD-append-add, ext-getD}
+use lib.Seq.{set-append-left, set-getD, set-set, set-split, set-at}
 use Rattle.p0_choice.specs.Choice.{each}
 use Rattle.p3_cells.specs.Cells.{limit, blank, blanks, isCell, isSound, used, composed, holding}
 use Rattle.p3_cells.specs.Mirror.{cellOf, withCell, withCount}
@@ -108,6 +109,38 @@ composed-sound z xs h e =
           rw (d, getD-append-add) (blanks-at (limit - length xs) (i - length xs));
     })
 
+-- ---- a cell of it, another one instead, and one more
+pub cell-back : (c : Composition) (i : ℕ) → withCell c i (cellOf c i) ≡ c
+cell-back c i = rw (set-getD (c .cells) i blank) refl
+
+pub cell-again : (c : Composition) (i : ℕ) (x y : Cell) → withCell (withCell c i y) i x ≡ withCell c i x
+cell-again c i x y = rw (set-set (c .cells) i y x) refl
+
+module _ (z : Settings) (xs : List Cell) where
+  pub count-again : (n : ℕ) → length xs ≡ n → withCount (composed z xs) n ≡ composed z xs
+  unfolding composed
+  count-again n e = rw (← e) refl
+
+  pub cell-held : (i : ℕ) → i < length xs → cellOf (composed z xs) i ≡ getD xs i blank
+  unfolding composed
+  cell-held i h = List·getD-append xs (blanks (limit - length xs)) blank i h
+
+  pub composed-set : (i : ℕ) (x : Cell) → i < length xs → withCell (composed z xs) i x ≡ composed z (set xs i x)
+  unfolding composed
+  composed-set i x h =
+      made z (set xs i x) (set (xs ++ blanks (limit - length xs)) i x) (length xs)
+      (set-append-left xs (blanks (limit - length xs)) i x h) (length-set xs i x)
+
+  pub composed-append : (n : ℕ) (x : Cell) → length xs ≡ n → n < limit
+      → withCount (withCell (composed z xs) n x) (n + 1) ≡ composed z (xs ++ (x ∷ []))
+  unfolding composed
+  composed-append n x e h =
+      let d : limit - length xs ≡ suc (limit - (n + 1)) = omega arith in
+      made z (xs ++ (x ∷ [])) (set (xs ++ blanks (limit - length xs)) n x) (n + 1)
+      (ap (λ (m : ℕ). set (xs ++ blanks m) n x) d ∙ set-at xs blank (blanks (limit - (n + 1))) x n e
+      ∙ sym (append-assoc xs (x ∷ []) (blanks (limit - (n + 1)))))
+      (rw length-append (omega arith))
+
 module _ (c : Composition) (s : isSound c ≡ true) where
   -- the same cells, under other settings
   pub holding-under : (z : Settings) → record { cells = c .cells; settings = z; count = c .count } ≡ composed z (used c)
@@ -119,22 +152,14 @@ module _ (c : Composition) (s : isSound c ≡ true) where
   -- another cell at a place in use
   pub holding-set : (i : ℕ) (x : Cell) → i < c .count → withCell c i x ≡ holding c (set (used c) i x)
   holding-set i x h =
-      let u = used-length c s in
-      made (c .settings) (set (used c) i x) (set (c .cells) i x) (c .count)
-      (ap (λ (l : List Cell). set l i x) (parted c s) ∙ set-append-left (used c) (blanks (limit - c .count)) i x (omega arith))
-      (length-set (used c) i x ∙ u)
+      ap (λ (d : Composition). withCell d i x) holding-used ∙ composed-set (c .settings) (used c) i x (rw (used-length c s) h)
 
   -- one more cell
   pub holding-append : (x : Cell) → c .count < limit
       → withCount (withCell c (c .count) x) (c .count + 1) ≡ holding c (used c ++ (x ∷ []))
   holding-append x h =
-      let u = used-length c s in
-      let d : limit - c .count ≡ suc (limit - (c .count + 1)) = omega arith in
-      made (c .settings) (used c ++ (x ∷ [])) (set (c .cells) (c .count) x) (c .count + 1)
-      (ap (λ (l : List Cell). set l (c .count) x) (parted c s ∙ ap (λ (m : ℕ). used c ++ blanks m) d)
-      ∙ set-at (used c) blank (blanks (limit - (c .count + 1))) x (c .count) u
-      ∙ sym (append-assoc (used c) (x ∷ []) (blanks (limit - (c .count + 1)))))
-      (rw length-append (omega arith))
+      ap (λ (d : Composition). withCount (withCell d (c .count) x) (c .count + 1)) holding-used
+      ∙ composed-append (c .settings) (used c) (c .count) x (used-length c s) h
 
   -- one cell less, "Removing the last cell blanks it."
   pub holding-less : 0 < c .count

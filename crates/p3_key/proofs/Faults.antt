@@ -5,11 +5,12 @@ use mathlib.Core.Bool.{Bool, true, false}
 use mathlib.Core.Logic.{inl}
 use native.Mathlib.Omega.{arith}
 use lib.Dec.{eqb, ltb}
-use lib.ListN.{length, getD}
+use lib.ListN.{length}
 use borrow.Author.Tests.{lt-ltb, ltb-true, ltb-false}
 use Rattle.p0_choice.specs.Choice.{pick}
 use Rattle.p1_letters.specs.Alphabet.{inAlphabet}
-use Rattle.p3_cells.specs.Cells.{limit, blank, isBlank, isCell, fitsAt, isSound}
+use Rattle.p3_cells.specs.Cells.{limit, isBlank, isCell, fitsAt, isSound}
+use Rattle.p3_cells.specs.Mirror.{cellOf}
 use Rattle.p3_cells.specs.declared.Cell.{Cell}
 use Rattle.p3_cells.specs.declared.Composition.{Composition}
 use Rattle.p3_cells.proofs.Soundness.{fits-used, fits-past, is-cell}
@@ -43,11 +44,11 @@ unfolding faultsBy
 faults-none c = refl
 
 module _ (c : Composition) (t i w u : ℕ) (e : fitsFrom c 0 ≡ faultsBy c t i) where
-  pub faults-used : u ≡ min (c .count) limit → i < u → eqb w 0 ≡ isCell (getD (c .cells) i blank)
+  pub faults-used : u ≡ min (c .count) limit → i < u → eqb w 0 ≡ isCell (cellOf c i)
       → fitsFrom c 0 ≡ faultsBy c (t + w) (i + 1)
   faults-used h l q = e ∙ more c t i w (omega arith) (q ∙ sym (fits-used (c .cells) (c .count) i (omega arith)))
 
-  pub faults-past : u ≡ min (c .count) limit → u ≤ i → i < limit → eqb w 0 ≡ isBlank (getD (c .cells) i blank)
+  pub faults-past : u ≡ min (c .count) limit → u ≤ i → i < limit → eqb w 0 ≡ isBlank (cellOf c i)
       → fitsFrom c 0 ≡ faultsBy c (t + w) (i + 1)
   faults-past h l m q = e ∙ more c t i w m (q ∙ sym (fits-past (c .cells) (c .count) i (omega arith)))
 

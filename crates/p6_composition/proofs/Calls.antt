@@ -10,9 +10,8 @@ use Rattle.p0_choice.specs.Choice.{pick}
 use Rattle.p0_refusals.specs.Answers.{Outcome}
 use Rattle.p0_refusals.specs.declared.Answer.the-variants.{Done, Refused}
 use Rattle.p0_refusals.specs.declared.Refusal.the-variants.{Unsound}
-use Rattle.p3_calls.specs.Settings.{empty, created}
+use Rattle.p3_calls.specs.Settings.{atFirst, created}
 use Rattle.p3_cells.specs.declared.After.{After}
-use Rattle.p3_cells.specs.declared.Mode.the-variants.{Vietnamese}
 use Rattle.p6_bytes.specs.Bytes.{size, methodOf, bytesSound}
 use Rattle.p6_zeros.specs.Zeros.{zeros}
 use Rattle.p6_bytes.proofs.Round.{method-forth}
@@ -110,8 +109,8 @@ module _ (b : List ℕ) (n : ℕ) where
 
     pub new-done-bytes : (new : List ℕ) → n ≤ 1 → new ≡ take 1 (set b 0 n) ++ (zeros (size - 1) ++ drop size (set b 0 n))
         → new ≡ newBytes b n
-    unfolding newBytes created empty
+    unfolding newBytes created
     new-done-bytes new h g =
         let l : length (set b 0 n) ≤ size = omega (arith, length-set b 0 n) in
         rw (← new-done h) (g ∙ rw (one b (omega arith), drop-of-length-le (set b 0 n) l) (ap (λ (x : ℕ). x ∷ zeros (size - 1))
-        (sym (method-forth n h)) ∙ emptied (methodOf n) Vietnamese))
+        (sym (method-forth n h)) ∙ emptied (atFirst (methodOf n))))

@@ -6,7 +6,7 @@ use mathlib.Core.Bool.{Bool, true, false, not}
 use mathlib.Core.List.{List}
 use native.Mathlib.Omega.{arith}
 use lib.Dec.{eqb}
-use lib.ListN.{length, getD, take, drop, set}
+use lib.ListN.{length, take, drop, set}
 use mir.Syntax.{w8}
 use mir.Val.{Fits}
 use Rattle.p0_choice.specs.Choice.{pick}
@@ -16,12 +16,12 @@ use Rattle.p0_refusals.specs.declared.Answer.the-variants.{Done, Refused}
 use Rattle.p0_refusals.specs.declared.Refusal.{Refusal}
 use Rattle.p0_refusals.specs.declared.Refusal.the-variants.{Foreign, NoUndo as NothingToUndo, Long}
 use Rattle.p1_letters.specs.Alphabet.{inAlphabet, allLetters, asciiLower}
-use Rattle.p2_input_method.specs.declared.InputMethod.{InputMethod}
 use Rattle.p2_input_method.specs.declared.MarkRule.{MarkRule}
-use Rattle.p3_cells.specs.Cells.{limit, blank, isSound, used}
+use Rattle.p3_cells.specs.Cells.{limit, isSound, used}
 use Rattle.p3_cells.specs.Leaving.{refusing}
+use Rattle.p3_cells.specs.Mirror.{cellOf, firstCells, withCell}
 use Rattle.p3_cells.specs.declared.Cell.{Cell}
-use Rattle.p3_cells.specs.declared.Composition.{Composition}
+use Rattle.p3_cells.specs.declared.Settings.{Settings}
 use Rattle.p3_undo.specs.Call.{behaviour, notUndone, undoTelex}
 use Rattle.p3_undo.specs.Mirror.{sign, signs, signCells}
 use Rattle.p3_undo.specs.Raw.{rawLowered}
@@ -33,17 +33,16 @@ use Rattle.p3_undo.specs.declared.Undoing.the-variants.{Nothing, Tone, Mark}
 use Rattle.p3_undo.proofs.Call.{undo-nothing, undo-toneless, undo-restored, undo-long, undo-foreign, undo-raw, undo-done}
 use Rattle.p3_undo.proofs.Found.{tone-place, mark-place}
 use Rattle.p3_undo.proofs.Signs.{Signed, signed-none, signed-more, signed-all, row-finds}
-use Rattle.p6_bytes.specs.Bytes.{methodByte, bytesOf, compositionOf, methodOf, bytesSound}
+use Rattle.p6_bytes.specs.Bytes.{bytesOf, compositionOf, bytesSound}
 use Rattle.p6_zeros.specs.Zeros.{byteAt}
 use Rattle.p6_bytes.specs.Mirror.{stored}
 use Rattle.p6_bytes.proofs.Sound.{sound-composition}
-use Rattle.p6_bytes.proofs.Stored.{cells-all, cell-stored, lent}
+use Rattle.p6_bytes.proofs.Stored.{cells-all}
 use Rattle.p6_composition.specs.UndoAnswer.{undoAnswer, undoLeaving}
 use Rattle.p6_composition.specs.Calls.{answerOn, bytesOn, undoOn}
 use Rattle.p6_composition.specs.Mirror.{foundOn}
 use Rattle.p6_composition.proofs.Calls.{ok-sound}
-use Rattle.p6_composition.proofs.InPlace.{told, stays, becomes}
-use Rattle.p6_composition.proofs.OneKey.{method-is}
+use Rattle.p6_composition.proofs.InPlace.{told, stays, becomes, cell-in}
 
 -- ---- the answer
 pub appends : (u : TelexUndo) → u ≡ AppendTrigger → Done 0 ≡ undoAnswer u
@@ -66,28 +65,29 @@ done-by r = go (eqb (r .first) (code "d")) (eqb (r .key) (code "d"))
     go false b = (0, refl)
 
 -- ---- the row
-pub signs-start : (b row : List ℕ) → Signed (compositionOf b .cells) row 0
-signs-start b row = signed-none (compositionOf b .cells) row
+pub signs-start : (b row : List ℕ) → Signed (compositionOf b) row 0
+signs-start b row = signed-none (compositionOf b) row
 
-pub signs-on : (b row : List ℕ) (i n v : ℕ) (x : Cell) → Signed (compositionOf b .cells) row i → i < n → n ≤ limit → n ≤ length row
-    → x ≡ getD (compositionOf b .cells) i blank → v ≡ sign x
-    → Signed (compositionOf b .cells) (set row i v) (i + 1)
-signs-on b row i n v x f h l m e q = signed-more (compositionOf b .cells) row i n v x f e q h m (omega (arith, cells-all b))
+pub signs-on : (b row : List ℕ) (i n v : ℕ) (x : Cell) → Signed (compositionOf b) row i → i < n → n ≤ limit → n ≤ length row
+    → x ≡ cellOf (compositionOf b) i → v ≡ sign x
+    → Signed (compositionOf b) (set row i v) (i + 1)
+signs-on b row i n v x f h l m e q = signed-more (compositionOf b) row i n v x f e q h m (omega (arith, cells-all b))
 
-pub signs-done : (b row : List ℕ) (i n : ℕ) → Signed (compositionOf b .cells) row i → i ≤ n → n ≤ i
-    → take n row ≡ signs (take n (compositionOf b .cells))
-signs-done b row i n f l h = signed-all (compositionOf b .cells) row i n f l h
+pub signs-done : (b row : List ℕ) (i n : ℕ) → Signed (compositionOf b) row i → i ≤ n → n ≤ i
+    → take n row ≡ signs (firstCells (compositionOf b) n)
+signs-done b row i n f l h = signed-all (compositionOf b) row i n f l h
 
-pub undo-on : (b : List ℕ) → bytesSound b ≡ true → (x n : ℕ) (m : InputMethod) (row part raw : List ℕ) (t : ℕ) (u : Undoing)
-    → x ≡ methodByte (compositionOf b .method) → m ≡ methodOf x → n ≡ compositionOf b .count
-    → take n row ≡ signs (take n (compositionOf b .cells)) → part ≡ take (n - 0) (drop 0 row)
-    → u ≡ toUndo m (signCells part) raw t → u ≡ toUndo (compositionOf b .method) (used (compositionOf b)) raw t
-undo-on b s x n m row part raw t u p q k f g h =
-    row-finds (compositionOf b) (sound-composition b s) m row part raw t u (method-is b x m p q) (rw k at f) (rw k at g) h
+pub undo-on : (b : List ℕ) → bytesSound b ≡ true → (z : Settings) (n : ℕ) (row part raw : List ℕ) (t : ℕ) (u : Undoing)
+    → z ≡ compositionOf b .settings → n ≡ compositionOf b .count → take n row ≡ signs (firstCells (compositionOf b) n)
+    → part ≡ take (n - 0) (drop 0 row) → u ≡ toUndo (z .method) (signCells part) raw t
+    → u ≡ toUndo (compositionOf b .settings .method) (used (compositionOf b)) raw t
+undo-on b s z n row part raw t u p k f g h =
+    row-finds (compositionOf b) (sound-composition b s) (z .method) row part raw t u (ap (λ (y : Settings). y .method) p) (rw k at f)
+    (rw k at g) h
 
 -- ---- what is found is stored
 module _ (b : List ℕ) (s : bytesSound b ≡ true) (raw : List ℕ) (t : ℕ) (u : Undoing)
-    (q : u ≡ toUndo (compositionOf b .method) (used (compositionOf b)) (rawLowered raw) t) where
+    (q : u ≡ toUndo (compositionOf b .settings .method) (used (compositionOf b)) (rawLowered raw) t) where
   pub tone-there : (i : ℕ) → u ≡ Tone i → i < limit
   tone-there i z = tone-place (compositionOf b) (rawLowered raw) t u (sound-composition b s) q i z
 
@@ -104,42 +104,33 @@ module _ (b : List ℕ) (s : bytesSound b ≡ true) (raw : List ℕ) (t : ℕ) (
   pub nothing-left : u ≡ Nothing → b ≡ bytesOn b (foundOn b raw t)
   nothing-left z = stays b s (foundOn b raw t) NothingToUndo (nothing z)
 
-  module _ (i : ℕ) (x y : Cell) (o : x ≡ getD (compositionOf b .cells) i blank) where
-    abbrev changed : Composition
-    changed = record {
-      cells = set (compositionOf b .cells) i y;
-      method = compositionOf b .method;
-      mode = compositionOf b .mode;
-      count = compositionOf b .count;
-    }
-
-    written : (new : List ℕ) → ((k : ℕ) → Fits w8 (byteAt b k)) → i < limit → new ≡ stored b i y → new ≡ bytesOf changed
-    written new f h m =
-        m ∙ ap (λ (l : List ℕ). stored l i y) (sym (lent b f s)) ∙ cell-stored (compositionOf b) i y (omega (arith, cells-all b))
+  module _ (i : ℕ) (x y : Cell) (o : x ≡ cellOf (compositionOf b) i) where
+    changed : (new : List ℕ) → ((k : ℕ) → Fits w8 (byteAt b k)) → i < limit → new ≡ stored b i y → new ≡ bytesOf (withCell (compositionOf b) i y)
+    changed new f h m = m ∙ cell-in b f s i y h
 
     module _ (c : u ≡ Tone i) (d : y ≡ toneLost x) where
-      toned : record { comp = changed; answer = Done 0 } ≡ foundOn b raw t
+      toned : record { comp = withCell (compositionOf b) i y; answer = Done 0 } ≡ foundOn b raw t
       unfolding foundOn undoLeaving
       toned = ap undoLeaving (undo-toneless (compositionOf b) (rawLowered raw) t u (sound-composition b s) q i x y c o d)
 
       pub tone-told : Done 0 ≡ answerOn b (foundOn b raw t)
-      tone-told = told b s (foundOn b raw t) changed (Done 0) toned
+      tone-told = told b s (foundOn b raw t) _ (Done 0) toned
 
       pub tone-left : (new : List ℕ) → ((k : ℕ) → Fits w8 (byteAt b k)) → new ≡ stored b i y → new ≡ bytesOn b (foundOn b raw t)
-      tone-left new f m = becomes b s (foundOn b raw t) changed 0 new toned (written new f (tone-there i c) m)
+      tone-left new f m = becomes b s (foundOn b raw t) _ 0 new toned (changed new f (tone-there i c) m)
 
     module _ (r : MarkRule) (w : TelexUndo) (c : u ≡ Mark i r) (d : y ≡ restored (r .first) x) (g : w ≡ behaviour r) where
-      marked : record { comp = changed; answer = undoAnswer w } ≡ foundOn b raw t
+      marked : record { comp = withCell (compositionOf b) i y; answer = undoAnswer w } ≡ foundOn b raw t
       unfolding foundOn undoLeaving
       marked = ap undoLeaving (undo-restored (compositionOf b) (rawLowered raw) t u (sound-composition b s) q i r x y w c o d g)
 
       pub mark-told : (a : Answer) → a ≡ undoAnswer w → a ≡ answerOn b (foundOn b raw t)
-      mark-told a m = m ∙ told b s (foundOn b raw t) changed (undoAnswer w) marked
+      mark-told a m = m ∙ told b s (foundOn b raw t) _ (undoAnswer w) marked
 
       pub mark-left : (new : List ℕ) → ((k : ℕ) → Fits w8 (byteAt b k)) → new ≡ stored b i y → new ≡ bytesOn b (foundOn b raw t)
       mark-left new f m =
           let n = done-by r in
-          becomes b s (foundOn b raw t) changed (n .0) new (rw (← (n .1), ← g) marked) (written new f (mark-there i r c) m)
+          becomes b s (foundOn b raw t) _ (n .0) new (rw (← (n .1), ← g) marked) (changed new f (mark-there i r c) m)
 
 -- ---- the refusals
 module _ (b : List ℕ) (v : Bool) (e : v ≡ bytesSound b) (a : not v ≡ false) (k : ℕ) (raw : List ℕ) where

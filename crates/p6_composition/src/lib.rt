@@ -7,7 +7,7 @@ ghost use Prim.Native.Nat.{_<_, _≤_};
 ghost use lib.ListN.{length, take, drop};
 ghost use Rattle.p3_calls.specs.Output.{textOutcome, removalOutcome};
 ghost use Rattle.p3_cells.specs.Cells.{limit, used};
-ghost use Rattle.p3_cells.specs.Mirror.{rowCells};
+ghost use Rattle.p3_cells.specs.Mirror.{firstCells, rowCells};
 ghost use Rattle.p3_cells.specs.Row.{bases};
 ghost use Rattle.p3_cells.specs.Text.{textOf};
 ghost use Rattle.p3_step.specs.Mirror.{stepOf};
@@ -27,6 +27,7 @@ use p1_letters as letters;
 use p2_input_method::InputMethod;
 use p3_cells as cells;
 use p3_cells::LIMIT;
+use p3_cells::Settings;
 use p3_step as step;
 use p3_step::Change;
 use p3_step::Step;
@@ -39,7 +40,7 @@ use p6_zeros as zeros;
 // The text of the first n cells, from the start of an output that has room for it.
 fn text(b: &[u8], n: usize, out: &mut [u32])
     requires { ⌜ (length (now b) ≡ size) × (n ≤ limit) × (n ≤ length (now out)) ⌝ }
-    ensures { λ _. ⌜ now (out .exit) ≡ textOf (take n (compositionOf (now (b .entry)) .cells)) ++ drop n (now (out .entry)) ⌝ }
+    ensures { λ _. ⌜ now (out .exit) ≡ textOf (firstCells (compositionOf (now (b .entry))) n) ++ drop n (now (out .entry)) ⌝ }
 {
     let mut i: usize = 0;
     while i < n {
@@ -54,7 +55,7 @@ fn text(b: &[u8], n: usize, out: &mut [u32])
 // The bases of the first n cells, from the start of a row.
 fn fill(b: &[u8], n: usize, row: &mut [u32])
     requires { ⌜ (length (now b) ≡ size) × (n ≤ limit) × (n ≤ length (now row)) ⌝ }
-    ensures { λ _. ⌜ take n (now (row .exit)) ≡ bases (take n (compositionOf (now (b .entry)) .cells)) ⌝ }
+    ensures { λ _. ⌜ take n (now (row .exit)) ≡ bases (firstCells (compositionOf (now (b .entry))) n) ⌝ }
 {
     let mut i: usize = 0;
     while i < n {
@@ -65,10 +66,11 @@ fn fill(b: &[u8], n: usize, row: &mut [u32])
 }
 
 // The step of a key in lower case. For one that does not act there is no row.
-fn step_on(b: &[u8], m: InputMethod, k: u32, n: usize) -> Step
+fn step_on(b: &[u8], z: Settings, k: u32, n: usize) -> Step
     requires { ⌜ (bytesSound (now b) ≡ true) × (n ≡ compositionOf (now b) .count) × (n ≤ limit) ⌝ }
-    ensures { λ r. ⌜ r ≡ stepOf m (rowCells (bases (used (compositionOf (now (b .entry)))))) k ⌝ }
+    ensures { λ r. ⌜ r ≡ stepOf z (rowCells (bases (used (compositionOf (now (b .entry)))))) k ⌝ }
 {
+    let m = z.method;
     if !p3_acts::acts(m, k) {
         return Step {
             change: Change::Append,
@@ -80,7 +82,7 @@ fn step_on(b: &[u8], m: InputMethod, k: u32, n: usize) -> Step
     }
     let mut row = [0u32; LIMIT];
     fill(b, n, &mut row);
-    step::first_step(m, &row[0..n], k)
+    step::first_step(z, &row[0..n], k)
 }
 
 // Stores the cells of a step, and the count.
@@ -94,9 +96,9 @@ fn apply(b: &mut [u8], s: Step, key: u32, k: u32)
     let x = bytes::cell(b, i);
     let y = bytes::cell(b, j);
     let p = step::put_cell(change, s.mark, x, y, key, k);
-    let q = step::also_cell(change, p);
-    bytes::store(b, i, p);
+    let q = step::also_cell(change, y);
     bytes::store(b, j, q);
+    bytes::store(b, i, p);
     b[2] = s.count as u8;
 }
 
@@ -119,9 +121,9 @@ pub fn process_key(state: &mut [u8], key: u32, out: &mut [u32]) -> Answer
         out[0] = key;
         return Answer::Done(1);
     }
-    let m = method_of(bytes::method_number(state));
+    let z = bytes::settings(state);
     let k = letters::ascii_lower(key);
-    let s = step_on(state, m, k, bytes::cell_count(state));
+    let s = step_on(state, z, k, bytes::cell_count(state));
     let count = s.count;
     if LIMIT < count {
         return Answer::Refused(Refusal::Full);
@@ -210,7 +212,7 @@ pub fn get_output(state: &[u8], out: &mut [u32]) -> Answer
 // The signs of the first n cells, from the start of a row.
 fn fill_signs(b: &[u8], n: usize, row: &mut [u32])
     requires { ⌜ (length (now b) ≡ size) × (n ≤ limit) × (n ≤ length (now row)) ⌝ }
-    ensures { λ _. ⌜ take n (now (row .exit)) ≡ signs (take n (compositionOf (now (b .entry)) .cells)) ⌝ }
+    ensures { λ _. ⌜ take n (now (row .exit)) ≡ signs (firstCells (compositionOf (now (b .entry))) n) ⌝ }
 {
     let mut i: usize = 0;
     while i < n {
@@ -223,10 +225,11 @@ fn fill_signs(b: &[u8], n: usize, row: &mut [u32])
 // What a trigger in lower case is to undo.
 fn undo_on(b: &[u8], n: usize, raw: &[u32], t: u32) -> Undoing
     requires { ⌜ (bytesSound (now b) ≡ true) × (n ≡ compositionOf (now b) .count) × (n ≤ limit) ⌝ }
-    ensures { λ r. ⌜ r ≡ toUndo (compositionOf (now (b .entry)) .method) (used (compositionOf (now (b .entry))))
+    ensures { λ r. ⌜ r ≡ toUndo (compositionOf (now (b .entry)) .settings .method) (used (compositionOf (now (b .entry))))
         (rawLowered (now (raw .entry))) t ⌝ }
 {
-    let m = method_of(bytes::method_number(b));
+    let z = bytes::settings(b);
+    let m = z.method;
     let mut row = [0u32; LIMIT];
     fill_signs(b, n, &mut row);
     undo::to_undo(m, &row[0..n], raw, t)

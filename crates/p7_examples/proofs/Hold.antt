@@ -40,8 +40,9 @@ unfolding press pressAll holds examples RefusalsAnswers.content RefusalsAnswers.
     CellsText.letterOf CellsText.tonedLetter CellsText.shown CellsText.textOf PlacePlace.lowLetter PlacePlace.lowBase PlacePlace.anyVowel
     PlacePlace.separates PlacePlace.anySeparates PlacePlace.lastSyllable PlacePlace.syllableStart PlacePlace.vowelPlaces PlacePlace.pairIn
     PlacePlace.glidingPair PlacePlace.glides PlacePlace.risingPair PlacePlace.kept PlacePlace.rises PlacePlace.chosen PlacePlace.placeOf
-    PlacePlace.tonePlace MarksUo.baseAt MarksUo.uoBack MarksUo.uoPlace MarksUo.hornU MarksUo.uoMade MarksUa.afterQ MarksUa.uaPlace
-    MarksUa.marked MarksUa.uaMade MarksMark.markBack MarksMark.markPlace MarksMark.markMade KeyKey.withTone KeyKey.toneMade KeyKey.appended
+    PlacePlace.tonePlace MarksUo.baseAt MarksUo.uoBack MarksUo.uoPlace MarksUo.hornU MarksUo.hornO MarksUo.uoMade MarksUa.afterQ
+    MarksUa.uaPlace MarksUa.marked MarksUa.uaMade MarksMark.markBack MarksMark.markPlace MarksMark.markMade KeyKey.withTone
+    KeyKey.toneMade KeyKey.appended
     KeyKey.markOrLater KeyKey.hornOrLater KeyKey.keyCells CallsSettings.empty CallsSettings.created UndoRaw.rawLowered UndoRaw.endsIn
     UndoRaw.pairAt UndoRaw.lastEnd UndoRaw.anyPlain UndoRaw.active UndoUndo.lastWith UndoUndo.hasTone UndoUndo.hasMark UndoUndo.ruleAt
     UndoUndo.byRules UndoUndo.toneAt UndoUndo.toUndo UndoUndo.toneLost UndoUndo.restored UndoUndo.undone UndoCall.undoFound

@@ -9,7 +9,7 @@ use Rattle.p6_composition.proofs.fill_signs.Statement.{statement}
 use Rattle.p6_composition.proofs.fill_signs.Tie as tie
 
 abbrev Inv-loop : tie.InvT-loop
-Inv-loop b n row₀ i₀ row i = (i ≤ n) × (length row ≡ length row₀) × (n ≤ length row) × Signed (compositionOf b .cells) row i
+Inv-loop b n row₀ i₀ row i = (i ≤ n) × (length row ≡ length row₀) × (n ≤ length row) × Signed (compositionOf b) row i
 
 abbrev μ-loop : tie.MeasureT-loop
 μ-loop b n row₀ i₀ row i = n - i

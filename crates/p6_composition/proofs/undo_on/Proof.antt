@@ -10,5 +10,5 @@ pub undo-on-spec : {M : Type 1} → statement M
 undo-on-spec =
     tie.close
     (tie.spec
-    (λ c κs. search answers) (λ c κs. search answers) (λ c. search answers) (λ c κs. search answers)
-    (λ c. search answers) (λ c. search answers) (λ c. search answers) (λ c κs. search answers) (λ c. search answers))
+    (λ c κs. search answers) (λ c. search answers) (λ c κs. search answers) (λ c. search answers) (λ c. search answers)
+    (λ c. search answers) (λ c κs. search answers) (λ c. search answers))
