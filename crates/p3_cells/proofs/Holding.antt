@@ -6,7 +6,8 @@ use mathlib.Core.List.{List, [], _∷_, _++_, append-assoc}
 use native.Mathlib.Omega.{arith}
 use lib.ListN.{length, getD, take, drop, set, length-append, length-drop, length-take, length-set, take-append-drop}
 use lib.ListN.{drop-of-length-le, List·getD-append}
-use lib.Seq.{length-take-le, take-append-seam, getD-take, getD-drop, getD-append-add, set-append-left, set-set, set-split, set-at, ext-getD}
+use lib.Seq.{length-take-le, take-append-seam, getD-take, getD-drop, getD-append-add, ext-getD}
+use lib.Seq.{set-append-left, set-getD, set-set, set-split, set-at}
 use Rattle.p0_choice.specs.Choice.{each}
 use Rattle.p3_cells.specs.Cells.{limit, blank, blanks, isCell, isSound, used, composed, holding}
 use Rattle.p3_cells.specs.Mirror.{cellOf, withCell, withCount}
@@ -109,6 +110,9 @@ composed-sound z xs h e =
     })
 
 -- ---- a cell of it, another one instead, and one more
+pub cell-back : (c : Composition) (i : ℕ) → withCell c i (cellOf c i) ≡ c
+cell-back c i = rw (set-getD (c .cells) i blank) refl
+
 pub cell-again : (c : Composition) (i : ℕ) (x y : Cell) → withCell (withCell c i y) i x ≡ withCell c i x
 cell-again c i x y = rw (set-set (c .cells) i y x) refl
 

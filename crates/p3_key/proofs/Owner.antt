@@ -27,14 +27,14 @@ use Rattle.p3_key.proofs.Letters.{lettersTo, letters-more}
 use Rattle.p3_key.proofs.Right.{stroked, Right, stroke-right}
 
 -- a sound composition's row is that of its cells in use
-used-row : (c : Composition) (b : List ℕ) (u i : ℕ) → isSound c ≡ true → u ≡ min (c .count) limit → Filled (c .cells) b i → i ≤ u → u ≤ i
+used-row : (c : Composition) (b : List ℕ) (u i : ℕ) → isSound c ≡ true → u ≡ min (c .count) limit → Filled c b i → i ≤ u → u ≤ i
     → take (u - 0) (drop 0 b) ≡ bases (used c)
 unfolding used
 used-row c b u i s h f l g =
     let n = count-fits c s in
     let d : u - 0 ≡ i = omega arith in
     let e : i ≡ c .count = omega arith in
-    rw (d, filled (c .cells) b i f, e) refl
+    rw (d, filled c b i f, e) refl
 
 unsound : (m n : List Cell) (c : Composition) (key r : ℕ)
     → strokeOf false (c .settings) m key (c .count) r ≡ strokeOf false (c .settings) n key (c .count) r
@@ -45,7 +45,7 @@ unsound m n c key r = refl
 stroke-known : (c : Composition) (key : ℕ) (o b : List ℕ) (trusted s : Bool) (t i j u : ℕ) (e : Stroke)
     → length (c .cells) ≡ limit → fitsFrom c 0 ≡ faultsBy c t i → limit ≤ i
     → (trusted ≡ true → isSound c ≡ true) → s ≡ soundBy trusted (c .count) t
-    → u ≡ min (c .count) limit → Filled (c .cells) b j → j ≤ u → u ≤ j
+    → u ≡ min (c .count) limit → Filled c b j → j ≤ u → u ≤ j
     → e ≡ strokeOf s (c .settings) (rowCells (take (u - 0) (drop 0 b))) key (c .count) (length o)
     → e ≡ strokeOf (isSound c) (c .settings) (rowCells (bases (used c))) key (c .count) (length o)
 stroke-known c key o b trusted s t i j u e n f l p q h g k m r =
@@ -74,7 +74,7 @@ letters-stored m key c d e q p o out j v l g h f t r r′ =
 pub owner-right : (c d : Composition) (key : ℕ) (o out b row : List ℕ) (trusted s : Bool) (t i j u k r : ℕ) (e : Stroke) (p q : Cell)
     → length (c .cells) ≡ limit → fitsFrom c 0 ≡ faultsBy c t i → limit ≤ i
     → (trusted ≡ true → isSound c ≡ true) → s ≡ soundBy trusted (c .count) t
-    → u ≡ min (c .count) limit → Filled (c .cells) b j → j ≤ u → u ≤ j
+    → u ≡ min (c .count) limit → Filled c b j → j ≤ u → u ≤ j
     → row ≡ take (u - 0) (drop 0 b) → e ≡ strokeOf s (c .settings) (rowCells row) key (c .count) (length o)
     → k ≡ asciiLower key → p ≡ put (e .step) c key k → q ≡ alsoPut (e .step) c → Stored c e q p d
     → out ≡ lettersTo (c .settings .mode) key d r o → r ≤ e .letters → e .letters ≤ r

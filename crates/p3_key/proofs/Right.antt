@@ -129,7 +129,7 @@ in-vietnamese m a b e = rw e refl
 in-english : {A : Type 0} (m : Mode) (a b : A) → m ≡ English → inMode m a b ≡ b
 in-english m a b e = rw e refl
 
-letters-vietnamese : (m : Mode) (key : ℕ) (xs : List Cell) → m ≡ Vietnamese → map (letterFor m key) xs ≡ textOf xs
+pub letters-vietnamese : (m : Mode) (key : ℕ) (xs : List Cell) → m ≡ Vietnamese → map (letterFor m key) xs ≡ textOf xs
 unfolding letterFor textOf
 letters-vietnamese m key xs e = rw e (go xs)
   where

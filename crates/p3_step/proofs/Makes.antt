@@ -5,17 +5,17 @@ use mathlib.Core.Bool.{Bool, true, false}
 use mathlib.Core.List.{List, [], _∷_, _++_}
 use native.Mathlib.Omega.{arith}
 use lib.ListN.{length, getD, set, length-append, length-set}
-use lib.Seq.{set-getD, set-set}
+use lib.Seq.{set-set}
 use Rattle.p0_choice.specs.Choice.{pick}
 use Rattle.p1_letters.specs.Alphabet.{asciiLower}
 use Rattle.p2_input_method.specs.Rules.{isToneKey, isHornKey, markFor}
 use Rattle.p3_cells.specs.declared.Settings.{Settings}
 use Rattle.p3_cells.specs.Cells.{limit, blank, typed, composed}
-use Rattle.p3_cells.specs.Mirror.{withCell, withCount}
+use Rattle.p3_cells.specs.Mirror.{cellOf, withCell, withCount}
 use Rattle.p3_cells.specs.Place.{placeOr}
 use Rattle.p3_cells.specs.declared.Cell.{Cell}
 use Rattle.p3_cells.specs.declared.Composition.{Composition}
-use Rattle.p3_cells.proofs.Holding.{cell-again, count-again, cell-held, composed-set, composed-append}
+use Rattle.p3_cells.proofs.Holding.{cell-back, cell-again, count-again, cell-held, composed-set, composed-append}
 use Rattle.p3_cells.proofs.Made.{tone-key-small}
 use Rattle.p3_tone.specs.TonePlace.{anyVowel, tonePlace}
 use Rattle.p3_tone.proofs.Bound.{vowel-some, tone-below}
@@ -40,7 +40,7 @@ stepped s c key k = withCount (withCell (withCell c (s .also) (alsoPut s c)) (s 
 -- a step that changes nothing puts the cell at hand back, twice
 pub still-same : (c : Composition) (key k : ℕ) → stepped (still (c .count)) c key k ≡ c
 unfolding stepped putCell alsoCell
-still-same c key k = rw (set-getD (c .cells) 0 blank, set-getD (c .cells) 0 blank) refl
+still-same c key k = cell-again c 0 (cellOf c 0) (cellOf c 0) ∙ cell-back c 0
 
 -- the step makes the cells xs of the cells cs, whatever the settings
 pub record Makes (s : Step) (cs xs : List Cell) (key k : ℕ) : Type 0 where

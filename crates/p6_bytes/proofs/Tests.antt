@@ -1,20 +1,22 @@
 -- The loops of the test: what is left decides.
-use Prim.Native.Nat.{ℕ, suc, _+_, _*_, _-_, _≤_, _<_}
+use Prim.Native.Nat.{ℕ, suc, _+_, _-_, _≤_, _<_}
 use mathlib.Core.Path.{_≡_, refl, sym, _∙_}
 use mathlib.Core.Bool.{Bool, true, false, not}
 use mathlib.Core.List.{List}
 use mathlib.Core.Logic.{inl}
 use native.Mathlib.Omega.{arith}
-use lib.Dec.{eqb, ltb}
-use borrow.Author.Tests.{ne-eqb, eqb-true, eqb-false, lt-ltb, le-ltb, le-leb, lt-leb, not-true, not-false}
+use lib.Dec.{eqb}
+use borrow.Author.Tests.{ne-eqb, eqb-true, eqb-false, lt-ltb, le-leb, lt-leb, not-true, not-false}
 use Rattle.p0_choice.specs.Choice.{pick, each, from as numbers}
 use Rattle.p0_choice.proofs.Tests.{are-both}
 use Rattle.p1_letters.specs.Alphabet.{inAlphabet}
 use Rattle.p3_cells.specs.Cells.{isCell}
 use Rattle.p3_cells.specs.declared.Cell.{Cell}
 use Rattle.p3_cells.proofs.Soundness.{is-cell}
-use Rattle.p6_bytes.specs.Bytes.{byteAt, cellAt, start, spellsCell, isZero, reservedZero}
-use Rattle.p6_bytes.specs.Mirror.{longAt, cellFits, cellsFit}
+use Rattle.p6_bytes.specs.Bytes.{cellAt, start, spellsCell, reservedZero}
+use Rattle.p6_zeros.specs.Zeros.{byteAt, isZero}
+use Rattle.p6_bytes.specs.Mirror.{cellFits, cellsFit}
+use Rattle.p6_zeros.specs.Mirror.{longAt}
 
 turn : (p : ℕ → Bool) (n i : ℕ) → i < n → each p (numbers (n - i) i) ≡ pick (p i) (each p (numbers (n - (i + 1)) (i + 1))) false
 turn p n i h =
@@ -37,17 +39,6 @@ sum-zero x y = go (eqb x 0) refl
     go true e = let z : x + y ≡ y = omega (arith, eqb-true x 0 e) in rw z refl
     go false e = sym (ne-eqb (x + y) 0 (λ (q : x + y ≡ 0). eqb-false x 0 e (omega arith)))
 
--- all eight as a number n: it is below 256 to the third where the last five are 0
-module _ (b0 b1 b2 b3 b4 b5 b6 b7 : ℕ) (h0 : b0 < 256) (h1 : b1 < 256) (h2 : b2 < 256) where
-  below-as : (n : ℕ) (t : Bool) → n ≡ b0 + b1 * 256 + b2 * 65536 + b3 * 16777216 + b4 * 4294967296 + b5 * 1099511627776 + b6 *
-      281474976710656 + b7 * 72057594037927936 → eqb (b3 + (b4 + (b5 + (b6 + b7)))) 0 ≡ t → ltb n 16777216 ≡ t
-  below-as n true p e = let z = eqb-true (b3 + (b4 + (b5 + (b6 + b7)))) 0 e in lt-ltb n 16777216 (omega arith)
-  below-as n false p e = le-ltb n 16777216 (omega (arith, eqb-false (b3 + (b4 + (b5 + (b6 + b7)))) 0 e))
-
-  pub below : (n : ℕ) → n ≡ b0 + b1 * 256 + b2 * 65536 + b3 * 16777216 + b4 * 4294967296 + b5 * 1099511627776 + b6 * 281474976710656
-      + b7 * 72057594037927936 → ltb n 16777216 ≡ eqb (b3 + (b4 + (b5 + (b6 + b7)))) 0
-  below n p = below-as n _ p refl
-
 pub free : (b : List ℕ) (r : Bool) → r ≡ eqb (byteAt b 3 + (byteAt b 4 + (byteAt b 5 + (byteAt b 6 + byteAt b 7)))) 0 → r ≡ reservedZero b
 unfolding reservedZero isZero
 free b r e =
@@ -62,13 +53,6 @@ free b r e =
     ) refl)
 
 -- ---- one cell
-pub long-read : (b : List ℕ) (at n : ℕ)
-    → n ≡ byteAt b at + byteAt b (at + 1) * 256 + byteAt b (at + 2) * 65536 + byteAt b (at + 3) * 16777216 + byteAt b (at + 4) * 4294967296
-    + byteAt b (at + 5) * 1099511627776 + byteAt b (at + 6) * 281474976710656 + byteAt b (at + 7) * 72057594037927936
-    → n ≡ longAt b at
-unfolding longAt
-long-read b at n e = e
-
 ascii-cell : (x : Cell) → x .base < 128 → x .mark ≡ 0 → x .tone ≡ 0 → isCell x ≡ true
 unfolding inAlphabet
 ascii-cell x b m t = is-cell x (record { base = rw (lt-ltb (x .base) 0x80 b) refl; mark = inl m; tone = inl t })

@@ -15,7 +15,7 @@ use Rattle.p3_key.proofs.compose.Tie as tie
 
 abbrev Inv-loop : tie.InvT-loop
 Inv-loop key out trusted c n used bases₀ faults₀ i₀ bases faults i =
-    (i ≤ used) × (length bases ≡ limit) × (faults ≤ i) × Filled (c .cells) bases i × (fitsFrom c 0 ≡ faultsBy c faults i)
+    (i ≤ used) × (length bases ≡ limit) × (faults ≤ i) × Filled c bases i × (fitsFrom c 0 ≡ faultsBy c faults i)
 
 abbrev μ-loop : tie.MeasureT-loop
 μ-loop key out trusted c n used bases₀ faults₀ i₀ bases faults i = used - i
