@@ -85,10 +85,6 @@ pub count-held : (z : Settings) (xs : List Cell) → composed z xs .count ≡ le
 unfolding composed
 count-held z xs = refl
 
-pub cells-held : (z : Settings) (xs : List Cell) → composed z xs .cells ≡ xs ++ blanks (limit - length xs)
-unfolding composed
-cells-held z xs = refl
-
 pub used-held : (z : Settings) (xs : List Cell) → used (composed z xs) ≡ xs
 unfolding used composed
 used-held z xs = take-append-seam xs (blanks (limit - length xs))

@@ -61,7 +61,8 @@ unfolding bytesOf headBytes
 count-stored c n = refl
 
 pub mode-stored : (c : Composition) (o : Mode) (n : ℕ) → n ≡ modeByte o
-    → set (bytesOf c) 1 n ≡ bytesOf (record { cells = c .cells; settings = record { method = c .settings .method; mode = o }; count = c .count })
+    → set (bytesOf c) 1 n
+    ≡ bytesOf (record { cells = c .cells; settings = record { method = c .settings .method; mode = o }; count = c .count })
 unfolding bytesOf headBytes
 mode-stored c o n e = rw e refl
 

@@ -1,6 +1,6 @@
 -- Document 01, "Port order": "the composition as bytes in an order that docs/ states". A head of 8 bytes: the settings
--- (method, mode), the count, and bytes kept for settings to come. Then the cells, of 8 bytes each: the base in four and the mark in two, low
--- byte first, the tone, the capital flag.
+-- (method, mode), the count, and bytes kept for settings to come. Then the cells, of 8 bytes each: the base in four and the
+-- mark in two, low byte first, the tone, the capital flag.
 use Prim.Native.Nat.{ℕ, zero, suc, _+_, _*_, _-_, _/_, _%_}
 use mathlib.Core.Bool.{Bool, false}
 use mathlib.Core.List.{List, [], _∷_, _++_}

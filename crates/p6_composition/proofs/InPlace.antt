@@ -163,7 +163,8 @@ module _ (b : List ℕ) (v : Bool) (e : v ≡ bytesSound b) (t : not v ≡ false
 
   pub reset-cleared : (new : List ℕ) → new ≡ take 2 b ++ (zeros (size - 2) ++ drop size b) → new ≡ bytesOn b (resetOn b)
   reset-cleared new h = becomes b s (resetOn b) _ 0 new reset-leaves
-      (cleared b new _ long (two b (omega (arith, long)) ∙ spelt _ _ (compositionOf b .settings) (method-field b s _ refl) (mode-field b s _ refl)) h)
+      (cleared b new _ long
+      (two b (omega (arith, long)) ∙ spelt _ _ (compositionOf b .settings) (method-field b s _ refl) (mode-field b s _ refl)) h)
 
   -- ---- the method
   module _ (n : ℕ) (l : n ≤ 1) where
@@ -179,7 +180,8 @@ module _ (b : List ℕ) (v : Bool) (e : v ≡ bytesSound b) (t : not v ≡ false
         → new ≡ bytesOn b (methodOn b n)
     method-cleared new h = becomes b s (methodOn b n) _ 0 new method-leaves
         (cleared (set b 0 n) new _ (set-size b 0 n long)
-        (first b n (omega (arith, long)) ∙ spelt _ _ (withMethod (compositionOf b .settings) (methodOf n)) (sym (method-forth n l)) (mode-field b s _ refl)) h)
+        (first b n (omega (arith, long))
+        ∙ spelt _ _ (withMethod (compositionOf b .settings) (methodOf n)) (sym (method-forth n l)) (mode-field b s _ refl)) h)
 
     -- ---- the mode
     mode-leaves : (d : Composition) → ((on : Bool) → eqb n 0 ≡ on → d ≡ turned (compositionOf b) on)

@@ -105,7 +105,8 @@ module _ (b : List ℕ) (s : bytesSound b ≡ true) (raw : List ℕ) (t : ℕ) (
   nothing-left z = stays b s (foundOn b raw t) NothingToUndo (nothing z)
 
   module _ (i : ℕ) (x y : Cell) (o : x ≡ cellOf (compositionOf b) i) where
-    changed : (new : List ℕ) → ((k : ℕ) → Fits w8 (byteAt b k)) → i < limit → new ≡ stored b i y → new ≡ bytesOf (withCell (compositionOf b) i y)
+    changed : (new : List ℕ) → ((k : ℕ) → Fits w8 (byteAt b k)) → i < limit → new ≡ stored b i y
+        → new ≡ bytesOf (withCell (compositionOf b) i y)
     changed new f h m = m ∙ cell-in b f s i y h
 
     module _ (c : u ≡ Tone i) (d : y ≡ toneLost x) where

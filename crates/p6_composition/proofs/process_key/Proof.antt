@@ -45,7 +45,8 @@ process-key-spec =
     let passed = alphabet .before in
     let test = passed .before in
     full-key _ _ (test .bytes-ok .ensures) (passed .if1 .left) _ _ _ (alphabet .in-alphabet .ensures) (letter .if2 .left) _
-    (mode .mode-number .ensures) (other .if3 .left) _ _ _ (settings .settings .ensures) (lower .ascii-lower .ensures) (step .step-on .ensures) (c .if5 .taken))
+    (mode .mode-number .ensures) (other .if3 .left) _ _ _ (settings .settings .ensures)
+    (lower .ascii-lower .ensures) (step .step-on .ensures) (c .if5 .taken))
     (λ c. search answers)
     -- no room for the letters
     (λ c.
@@ -59,7 +60,8 @@ process-key-spec =
     let passed = alphabet .before in
     let test = passed .before in
     short-key _ _ (test .bytes-ok .ensures) (passed .if1 .left) _ _ _ (alphabet .in-alphabet .ensures) (letter .if2 .left) _
-    (mode .mode-number .ensures) (other .if3 .left) _ _ _ (settings .settings .ensures) (lower .ascii-lower .ensures) (step .step-on .ensures) (c .before .if5 .left) (c .if6 .taken))
+    (mode .mode-number .ensures) (other .if3 .left) _ _ _ (settings .settings .ensures)
+    (lower .ascii-lower .ensures) (step .step-on .ensures) (c .before .if5 .left) (c .if6 .taken))
     -- the places of the step
     (λ c κs.
     let step = c .before .before .before in
@@ -74,7 +76,8 @@ process-key-spec =
     let size = ok-size _ _ (test .bytes-ok .ensures) (passed .if1 .left) in
     let at = places _ _ (test .bytes-ok .ensures) (passed .if1 .left) _ (test .before .before .before .before .args .out .now) _
     (alphabet .in-alphabet .ensures) (letter .if2 .left) _
-    (mode .mode-number .ensures) (other .if3 .left) _ _ _ (settings .settings .ensures) (lower .ascii-lower .ensures) (step .step-on .ensures) (c .before .before .if5 .left) in
+    (mode .mode-number .ensures) (other .if3 .left) _ _ _ (settings .settings .ensures)
+    (lower .ascii-lower .ensures) (step .step-on .ensures) (c .before .before .if5 .left) in
     (size, at .0, at .1, c .before .before .if5 .left))
     (λ c κs. search answers) (λ c. search answers) (λ c. search answers)
     -- the step is done
@@ -90,6 +93,7 @@ process-key-spec =
     let passed = alphabet .before in
     let test = passed .before in
     done-key _ _ (test .bytes-ok .ensures) (passed .if1 .left) _ _ _ (alphabet .in-alphabet .ensures) (letter .if2 .left) _
-    (mode .mode-number .ensures) (other .if3 .left) _ _ _ (settings .settings .ensures) (lower .ascii-lower .ensures) (step .step-on .ensures) (apply .before .before .before .if5 .left)
+    (mode .mode-number .ensures) (other .if3 .left) _ _ _ (settings .settings .ensures)
+    (lower .ascii-lower .ensures) (step .step-on .ensures) (apply .before .before .before .if5 .left)
     (apply .before .before .if6 .left) _ (test .before .before .before .slice-known .given) (apply .apply .ensures .1) _
     (c .before .before .text .ensures)))
