@@ -10,7 +10,8 @@ use Rattle.p3_cells.specs.Cells.{isSound, composed}
 use Rattle.p3_cells.specs.declared.Composition.{Composition}
 use Rattle.p3_cells.specs.declared.Mode.the-variants.{Vietnamese, English}
 use Rattle.p3_cells.proofs.Holding.{holding-under}
-use Rattle.p3_calls.specs.Settings.{withMode, settled, turned}
+use Rattle.p3_cells.specs.Settings.{withMode}
+use Rattle.p3_calls.specs.Settings.{settled, turned}
 
 module _ (c : Composition) (s : Bool) (e : s ≡ isSound c) where
   pub set-unsound : not s ≡ true → settled c ≡ refuses Unsound

@@ -7,17 +7,13 @@ use Rattle.p0_refusals.specs.Answers.{Outcome, writes, refuses, answer}
 use Rattle.p0_refusals.specs.declared.Refusal.the-variants.{Unsound}
 use Rattle.p2_input_method.specs.declared.InputMethod.{InputMethod}
 use Rattle.p3_cells.specs.Cells.{isSound, used, composed}
+use Rattle.p3_cells.specs.Settings.{atFirst, withMethod, withMode}
 use Rattle.p3_cells.specs.declared.Composition.{Composition}
-use Rattle.p3_cells.specs.declared.Mode.{Mode}
 use Rattle.p3_cells.specs.declared.Mode.the-variants.{Vietnamese, English}
-use Rattle.p3_cells.specs.declared.Settings.{Settings}
 use Rattle.p3_cells.specs.Leaving.{leaving}
 use Rattle.p3_cells.specs.declared.After.{After}
 
--- a new composition: no cells, in Vietnamese mode
-abbrev pub atFirst : InputMethod → Settings
-atFirst m = record { method = m; mode = Vietnamese }
-
+-- a new composition: no cells
 unfoldable pub created : InputMethod → Composition
 created m = composed (atFirst m) []
 
@@ -30,16 +26,10 @@ unfoldable pub resetTo : Composition → After
 resetTo c = leaving (answer (settled c) 0) c (composed (c .settings) [])
 
 -- "setting the method empties them and keeps the mode"
-abbrev pub withMethod : Settings → InputMethod → Settings
-withMethod z m = record { method = m; mode = z .mode }
-
 unfoldable pub methodSet : Composition → InputMethod → After
 methodSet c m = leaving (answer (settled c) 0) c (composed (withMethod (c .settings) m) [])
 
 -- "Turning to English empties them, always; turning to Vietnamese empties nothing."
-abbrev pub withMode : Settings → Mode → Settings
-withMode z o = record { method = z .method; mode = o }
-
 unfoldable pub turned : Composition → Bool → Composition
 turned c on = pick on (composed (withMode (c .settings) Vietnamese) (used c)) (composed (withMode (c .settings) English) [])
 

@@ -33,7 +33,7 @@ pub toned-some : (x : Cell) (l r : ℕ) → l ≡ letterOf x → r ≡ toneOn l 
 unfolding tonedLetter
 toned-some x l r e q = rw (← e) q
 
--- neither a tone nor a flag, as the number says
+-- ---- a cell as one number below 2^48
 flag-off : (x : Cell) → packedCell x < 281474976710656 → x .upper ≡ false
 unfolding packedCell
 flag-off x h = go (x .upper) refl
@@ -59,10 +59,12 @@ module _ (x : Cell) (t : ℕ) (e : t ≡ tonedLetter x) where
   unfolding shown
   shown-tried v r h p q f = rw (← e, ← p, q) (pick-true (x .upper) r (asciiUpper t) t (not-false (x .upper) h) f)
 
+-- neither a tone nor a flag
+pub shown-bare : (x : Cell) (l : ℕ) → x .tone ≡ 0 → x .upper ≡ false → l ≡ letterOf x → l ≡ shown x
+shown-bare x l t u q = shown-small x l (toned-none x l q t) (ap not u)
+
 pub shown-plain : (x : Cell) (w l : ℕ) → w ≡ packedCell x → w < 281474976710656 → l ≡ letterOf x → l ≡ shown x
-shown-plain x w l e h q =
-    let k = rw e at h in
-    shown-small x l (toned-none x l q (tone-off x k)) (ap not (flag-off x k))
+shown-plain x w l e h q = let k = rw e at h in shown-bare x l (tone-off x k) (flag-off x k) q
 
 -- ---- the first i letters are written
 unfoldable pub writtenTo : Composition → ℕ → List ℕ → List ℕ

@@ -7,7 +7,8 @@ use mathlib.Core.List.{List}
 use mathlib.Core.Logic.{⊎-elim}
 use native.Mathlib.Omega.{arith}
 use lib.Dec.{eqb, leb}
-use lib.ListN.{length}
+use lib.ListN.{length, take}
+use lib.Seq.{take-all}
 use borrow.Author.Tests.{eq-eqb, eqb-true, eqb-false, le-leb, leb-true, not-true, not-false}
 use Rattle.p0_choice.specs.Choice.{each, from}
 use Rattle.p0_choice.proofs.Tables.{each-count}
@@ -226,9 +227,10 @@ module _ (b : List ℕ) where
 
     -- the last test decides
     pub zero-decides : (r w v : Bool) → length b ≡ size → byteAt b 0 ≤ 1 → byteAt b 1 ≤ 1 → n ≤ limit → w ≡ reservedZero b → not w ≡ false
-        → v ≡ cellsFit b n → not v ≡ false → r ≡ zeroFrom b (start n)
+        → v ≡ cellsFit b n → not v ≡ false → r ≡ zeroFrom (take size b) (start n)
         → r ≡ bytesSound b
-    zero-decides r w v l m o f g d q t e =
+    zero-decides r w v l m o f g d q t z =
+        let e : r ≡ zeroFrom b (start n) = rw (take-all size b (omega arith)) at z in
         both r (bytesSound b) (λ (h : r ≡ true). tests-sound l m o f (sym g ∙ not-false w d) (sym q ∙ not-false v t) (sym e ∙ h))
         (λ (h : bytesSound b ≡ true). e ∙ rw p (sound-zero b h))
       where

@@ -65,13 +65,19 @@ module _ (b : List ℕ) (i : ℕ) where
       sym (are-both _ _ (le-leb (byteAt b (start i + 7)) 1 (omega arith))
       (ascii-cell (cellAt b (start i)) (omega arith) (omega arith) (omega arith)))
 
-  pub no-flag : 1 < byteAt b (start i + 7) → false ≡ cellFits b i
+  pub no-flag : (byteAt b (start i + 7) ≡ 0 → ⊥) → (byteAt b (start i + 7) ≡ 1 → ⊥) → false ≡ cellFits b i
   unfolding cellFits spellsCell
-  no-flag h = rw (lt-leb (byteAt b (start i + 7)) 1 h) refl
+  no-flag h k = rw (lt-leb (byteAt b (start i + 7)) 1 (omega arith)) refl
 
-  pub flag-fits : (r : Bool) (x : Cell) → byteAt b (start i + 7) ≤ 1 → x ≡ cellAt b (start i) → r ≡ isCell x → r ≡ cellFits b i
+  flag-fits : (r : Bool) (x : Cell) → byteAt b (start i + 7) ≤ 1 → x ≡ cellAt b (start i) → r ≡ isCell x → r ≡ cellFits b i
   unfolding cellFits spellsCell
   flag-fits r x h p q = rw (le-leb (byteAt b (start i + 7)) 1 h, ← p) q
+
+  pub flag-off : (r : Bool) (x : Cell) → byteAt b (start i + 7) ≡ 0 → x ≡ cellAt b (start i) → r ≡ isCell x → r ≡ cellFits b i
+  flag-off r x h = flag-fits r x (omega arith)
+
+  pub flag-on : (r : Bool) (x : Cell) → byteAt b (start i + 7) ≡ 1 → x ≡ cellAt b (start i) → r ≡ isCell x → r ≡ cellFits b i
+  flag-on r x h = flag-fits r x (omega arith)
 
 -- ---- the cells in use
 pub fit-start : (b : List ℕ) (n : ℕ) → cellsFit b n ≡ each (cellFits b) (numbers (n - 0) 0)

@@ -52,11 +52,8 @@ abbrev pub cellsBytes : List Cell → List ℕ
 cellsBytes [] = []
 cellsBytes (x ∷ xs) = cellBytes x ++ cellsBytes xs
 
-abbrev pub settingsBytes : Settings → List ℕ
-settingsBytes z = methodByte (z .method) ∷ modeByte (z .mode) ∷ []
-
 unfoldable pub headBytes : Composition → List ℕ
-headBytes c = settingsBytes (c .settings) ++ (c .count ∷ zeros (head - known))
+headBytes c = methodByte (c .settings .method) ∷ modeByte (c .settings .mode) ∷ c .count ∷ zeros (head - known)
 
 unfoldable pub bytesOf : Composition → List ℕ
 bytesOf c = headBytes c ++ cellsBytes (c .cells)

@@ -6,9 +6,10 @@ ghost use Prim.Native.Nat.{_+_, _*_, _<_, _≤_};
 ghost use lib.ListN.{length, take, drop};
 ghost use Rattle.p3_cells.specs.Cells.{limit};
 ghost use Rattle.p3_cells.specs.Mirror.{cellOf};
+ghost use Rattle.p3_cells.specs.Text.{shown as shownOf};
 ghost use Rattle.p6_bytes.specs.Bytes.{size, methodByte, modeByte, flagByte, cellBytes, cellAt};
 ghost use Rattle.p6_bytes.specs.Bytes.{methodOf, modeOf, compositionOf, reservedZero, bytesSound};
-ghost use Rattle.p6_bytes.specs.Mirror.{cellFits, cellsFit, stored};
+ghost use Rattle.p6_bytes.specs.Mirror.{cellFits, cellsFit, stored, cleared};
 use p2_input_method::InputMethod;
 use p3_cells as cells;
 use p3_cells::Cell;
@@ -64,7 +65,7 @@ fn reserved_zero(b: &[u8]) -> bool
     zeros::last_zero(b[0], b[1], b[2], b[3], b[4], b[5], b[6], b[7])
 }
 
-// Most cells are an ASCII letter alone, which one comparison tells.
+// Most cells are an ASCII letter alone, which one comparison tells. With an arm for each flag the cell is one load.
 fn cell_fits(b: &[u8], i: usize) -> bool
     requires { ⌜ (length (now b) ≡ size) × (i + 1 ≤ limit) ⌝ }
     ensures { λ r. ⌜ r ≡ cellFits (now (b .entry)) i ⌝ }
@@ -73,11 +74,17 @@ fn cell_fits(b: &[u8], i: usize) -> bool
     if zeros::long_at(b, at) < 128 {
         return true;
     }
-    if 1 < b[at + 7] {
-        return false;
+    match b[at + 7] {
+        0 => {
+            let x = cell_at(b, at);
+            cells::is_cell(x)
+        }
+        1 => {
+            let x = cell_at(b, at);
+            cells::is_cell(x)
+        }
+        _ => false,
     }
-    let x = cell_at(b, at);
-    cells::is_cell(x)
 }
 
 fn cells_fit(b: &[u8], n: usize) -> bool
@@ -94,7 +101,7 @@ fn cells_fit(b: &[u8], n: usize) -> bool
     true
 }
 
-// The bytes of a sound composition.
+// The bytes of a sound composition. The zeros are searched in a slice of their own: `b` would be copied to be lent on.
 pub fn bytes_ok(b: &[u8]) -> bool
     ensures { λ r. ⌜ r ≡ bytesSound (now (b .entry)) ⌝ }
 {
@@ -117,7 +124,7 @@ pub fn bytes_ok(b: &[u8]) -> bool
     if !cells_fit(b, n) {
         return false;
     }
-    zeros::zero_from(b, HEAD + 8 * n)
+    zeros::zero_from(&b[0..SIZE], HEAD + 8 * n)
 }
 
 // ---- its settings and numbers, each of which is one byte
@@ -215,4 +222,25 @@ pub fn store(b: &mut [u8], i: usize, x: Cell)
     ensures { λ _. ⌜ (length (now (b .exit)) ≡ size) × (now (b .exit) ≡ stored (now (b .entry)) i x) ⌝ }
 {
     put_cell(b, HEAD + 8 * i, x);
+}
+
+// Most cells have neither a tone nor a flag, which one comparison tells.
+pub fn shown(b: &[u8], i: usize) -> u32
+    requires { ⌜ (length (now b) ≡ size) × (i < limit) ⌝ }
+    ensures { λ r. ⌜ r ≡ shownOf (cellOf (compositionOf (now (b .entry))) i) ⌝ }
+{
+    let x = cell(b, i);
+    if zeros::long_at(b, HEAD + 8 * i) < 281474976710656 {
+        return cells::letter_of(x);
+    }
+    cells::shown(x)
+}
+
+// No cells: the count and the cells' bytes are 0.
+pub fn clear(b: &mut [u8])
+    requires { ⌜ length (now b) ≡ size ⌝ }
+    ensures { λ _. ⌜ now (b .exit) ≡ cleared (now (b .entry)) ⌝ }
+{
+    b[2] = 0;
+    zeros::put_zeros(b, HEAD, SIZE);
 }

@@ -10,13 +10,13 @@ use Rattle.p0_choice.specs.Choice.{pick}
 use Rattle.p0_refusals.specs.Answers.{Outcome}
 use Rattle.p0_refusals.specs.declared.Answer.the-variants.{Done, Refused}
 use Rattle.p0_refusals.specs.declared.Refusal.the-variants.{Unsound}
-use Rattle.p3_calls.specs.Settings.{atFirst, created}
+use Rattle.p3_calls.specs.Settings.{created}
 use Rattle.p3_cells.specs.declared.After.{After}
 use Rattle.p6_bytes.specs.Bytes.{size, methodOf, bytesSound}
 use Rattle.p6_zeros.specs.Zeros.{zeros}
 use Rattle.p6_bytes.proofs.Round.{method-forth}
 use Rattle.p6_bytes.proofs.Sound.{sound-size}
-use Rattle.p6_bytes.proofs.Stored.{emptied}
+use Rattle.p6_bytes.proofs.Stored.{begun-bytes}
 use Rattle.p6_composition.specs.Calls.{answerOn, bytesOn, outOn, orUnsound, methodOn, modeOn, textOn, newOn, newBytes}
 
 -- the test has let the bytes through
@@ -113,4 +113,4 @@ module _ (b : List ℕ) (n : ℕ) where
     new-done-bytes new h g =
         let l : length (set b 0 n) ≤ size = omega (arith, length-set b 0 n) in
         rw (← new-done h) (g ∙ rw (one b (omega arith), drop-of-length-le (set b 0 n) l) (ap (λ (x : ℕ). x ∷ zeros (size - 1))
-        (sym (method-forth n h)) ∙ emptied (atFirst (methodOf n))))
+        (sym (method-forth n h)) ∙ begun-bytes (methodOf n)))

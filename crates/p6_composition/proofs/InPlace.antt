@@ -5,7 +5,7 @@ use mathlib.Core.Bool.{Bool, true, false, not}
 use mathlib.Core.List.{List, [], _∷_, _++_}
 use native.Mathlib.Omega.{arith}
 use lib.Dec.{eqb}
-use lib.ListN.{length, take, drop, set, length-set, drop-of-length-le}
+use lib.ListN.{length, take, drop, set, length-set}
 use borrow.Author.Tests.{eq-eqb, ne-eqb, le-leb}
 use mir.Syntax.{w8}
 use mir.Val.{Fits}
@@ -23,23 +23,22 @@ use Rattle.p3_cells.specs.Mirror.{cellOf, firstCells, withCell, withCount}
 use Rattle.p3_cells.specs.declared.Cell.{Cell}
 use Rattle.p3_cells.specs.declared.Composition.{Composition}
 use Rattle.p3_cells.specs.declared.Mode.the-variants.{Vietnamese, English}
-use Rattle.p3_cells.specs.declared.Settings.{Settings}
 use Rattle.p3_cells.proofs.Leaving.{leaving-refused, leaving-nothing}
 use Rattle.p3_cells.proofs.Text.{writtenTo, written-none, written-more}
 use Rattle.p3_calls.specs.Literal.{literal}
 use Rattle.p3_calls.specs.Output.{textOutcome, removalOutcome}
-use Rattle.p3_calls.specs.Settings.{resetTo, withMethod, methodSet, withMode, turned, enabledSet}
+use Rattle.p3_cells.specs.Settings.{withMethod, withMode}
+use Rattle.p3_calls.specs.Settings.{resetTo, methodSet, turned, enabledSet}
 use Rattle.p3_calls.proofs.Literal.{literal-foreign, literal-full, literal-done, literal-appended}
 use Rattle.p3_calls.proofs.Output.{text-short, text-short-out, text-done, text-done-out, removal-empty, removal-empty-out, removal-short}
 use Rattle.p3_calls.proofs.Output.{removal-short-out, removal-done, removal-done-out}
 use Rattle.p3_calls.proofs.Settings.{set-done, turned-off, turned-on}
-use Rattle.p6_bytes.specs.Bytes.{size, methodByte, modeByte, settingsBytes, bytesOf, compositionOf, methodOf, bytesSound}
-use Rattle.p6_zeros.specs.Zeros.{byteAt, zeros}
-use Rattle.p6_bytes.specs.Mirror.{stored}
-use Rattle.p6_bytes.proofs.Fields.{method-field, mode-field}
+use Rattle.p6_bytes.specs.Bytes.{size, bytesOf, compositionOf, methodOf, bytesSound}
+use Rattle.p6_zeros.specs.Zeros.{byteAt}
+use Rattle.p6_bytes.specs.Mirror.{stored, cleared}
 use Rattle.p6_bytes.proofs.Round.{read-written, method-forth}
 use Rattle.p6_bytes.proofs.Sound.{sound-size, sound-composition, sound-count}
-use Rattle.p6_bytes.proofs.Stored.{cells-all, cell-stored, count-stored, mode-stored, emptied, lent}
+use Rattle.p6_bytes.proofs.Stored.{cells-all, cell-stored, count-stored, method-stored, mode-stored, cells-cleared, lent}
 use Rattle.p6_composition.specs.Calls.{answerOn, bytesOn, outOn, resetOn, literalOn, removalOn, orUnsound, methodOn, modeOn, textOn}
 use Rattle.p6_composition.proofs.Calls.{ok-sound}
 
@@ -47,11 +46,11 @@ use Rattle.p6_composition.proofs.Calls.{ok-sound}
 pub text-start : (b o : List ℕ) → o ≡ writtenTo (compositionOf b) 0 o
 text-start b o = written-none (compositionOf b) o
 
-pub text-on : (b o out : List ℕ) (i n v : ℕ) (x : Cell) → out ≡ writtenTo (compositionOf b) i o → x ≡ cellOf (compositionOf b) i
-    → v ≡ shown x → i < n → n ≤ limit → n ≤ length o
+pub text-on : (b o out : List ℕ) (i n v : ℕ) → out ≡ writtenTo (compositionOf b) i o → v ≡ shown (cellOf (compositionOf b) i)
+    → i < n → n ≤ limit → n ≤ length o
     → set out i v ≡ writtenTo (compositionOf b) (i + 1) o
 unfolding writtenTo
-text-on b o out i n v x e p q h l m = written-more (withCount (compositionOf b) n) o out i v e (q ∙ ap shown p) (cells-all b) h l m
+text-on b o out i n v e q h l m = written-more (withCount (compositionOf b) n) o out i v e q (cells-all b) h l m
 
 pub text-all : (b o out : List ℕ) (i n : ℕ) → out ≡ writtenTo (compositionOf b) i o → i ≤ n → n ≤ i
     → out ≡ textOf (firstCells (compositionOf b) n) ++ drop n o
@@ -77,14 +76,8 @@ module _ (b : List ℕ) (n : ℕ) (v : Bool) (p : n ≡ compositionOf b .count) 
   pub less-below : (n ≡ 0 → ⊥) → n - 1 < limit
   less-below z = omega (arith, few b n v p e t)
 
-pub room : (b : List ℕ) (v : Bool) → v ≡ bytesSound b → not v ≡ false → size ≤ length b
-room b v e t = omega (arith, sound-size b (ok-sound b v e t))
-
-pub set-room : (b : List ℕ) (i x : ℕ) (v : Bool) → v ≡ bytesSound b → not v ≡ false → size ≤ length (set b i x)
-set-room b i x v e t = omega (arith, set-size b i x (sound-size b (ok-sound b v e t)))
-
-pub set-length : (b new : List ℕ) (i x : ℕ) → length new ≡ length (set b i x) → length new ≡ length b
-set-length b new i x e = e ∙ length-set b i x
+pub set-ok : (b : List ℕ) (i x : ℕ) (v : Bool) → v ≡ bytesSound b → not v ≡ false → length (set b i x) ≡ size
+set-ok b i x v e t = set-size b i x (sound-size b (ok-sound b v e t))
 
 pub same-size : (b s : List ℕ) (i x : ℕ) → length s ≡ size → length b ≡ size → length (set s i x) ≡ length b
 same-size b s i x l k = set-size s i x l ∙ sym k
@@ -106,31 +99,6 @@ module _ (b : List ℕ) (s : bytesSound b ≡ true) (k : After) where
 written : (b : List ℕ) → bytesSound b ≡ true → (w : Outcome) (o new : List ℕ) → new ≡ output w o → new ≡ outOn b w o
 unfolding outOn
 written b s w o new h = rw s h
-
--- ---- no cells: the first two bytes stay, and the others are 0
-two : (s : List ℕ) → 2 ≤ length s → take 2 s ≡ byteAt s 0 ∷ byteAt s 1 ∷ []
-two (x ∷ y ∷ r) h = refl
-two (x ∷ []) h = absurd (omega arith)
-two [] h = absurd (omega arith)
-
-first : (s : List ℕ) (a : ℕ) → 2 ≤ length s → take 2 (set s 0 a) ≡ a ∷ byteAt s 1 ∷ []
-first (x ∷ y ∷ r) a h = refl
-first (x ∷ []) a h = absurd (omega arith)
-first [] a h = absurd (omega arith)
-
-second : (s : List ℕ) (a : ℕ) → 2 ≤ length s → take 2 (set s 1 a) ≡ byteAt s 0 ∷ a ∷ []
-second (x ∷ y ∷ r) a h = refl
-second (x ∷ []) a h = absurd (omega arith)
-second [] a h = absurd (omega arith)
-
-spelt : (x y : ℕ) (z : Settings) → x ≡ methodByte (z .method) → y ≡ modeByte (z .mode) → x ∷ y ∷ [] ≡ settingsBytes z
-spelt x y z p q = rw (p, q) refl
-
-cleared : (s new : List ℕ) (z : Settings) → length s ≡ size → take 2 s ≡ settingsBytes z
-    → new ≡ take 2 s ++ (zeros (size - 2) ++ drop size s) → new ≡ bytesOf (composed z [])
-cleared s new z l e h =
-    let g : length s ≤ size = omega arith in
-    h ∙ rw (e, drop-of-length-le s g) (emptied z)
 
 -- a cell, and a cell and the count
 pub cell-in : (b : List ℕ) → ((k : ℕ) → Fits w8 (byteAt b k)) → bytesSound b ≡ true → (i : ℕ) (x : Cell) → i < limit
@@ -161,10 +129,14 @@ module _ (b : List ℕ) (v : Bool) (e : v ≡ bytesSound b) (t : not v ≡ false
   pub reset-told : Done 0 ≡ answerOn b (resetOn b)
   reset-told = told b s (resetOn b) _ (Done 0) reset-leaves
 
-  pub reset-cleared : (new : List ℕ) → new ≡ take 2 b ++ (zeros (size - 2) ++ drop size b) → new ≡ bytesOn b (resetOn b)
-  reset-cleared new h = becomes b s (resetOn b) _ 0 new reset-leaves
-      (cleared b new _ long
-      (two b (omega (arith, long)) ∙ spelt _ _ (compositionOf b .settings) (method-field b s _ refl) (mode-field b s _ refl)) h)
+  -- no cells, where one byte of the head was stored before
+  emptied : ((k : ℕ) → Fits w8 (byteAt b k)) → (i n : ℕ) (d : Composition) → set (bytesOf (compositionOf b)) i n ≡ bytesOf d
+      → cleared (set b i n) ≡ bytesOf (composed (d .settings) [])
+  emptied f i n d e = ap (λ (x : List ℕ). cleared (set x i n)) (sym (lent b f s)) ∙ ap cleared e ∙ cells-cleared d
+
+  pub reset-cleared : ((k : ℕ) → Fits w8 (byteAt b k)) → (new : List ℕ) → new ≡ cleared b → new ≡ bytesOn b (resetOn b)
+  reset-cleared f new h = becomes b s (resetOn b) _ 0 new reset-leaves
+      (h ∙ ap cleared (sym (lent b f s)) ∙ cells-cleared (compositionOf b))
 
   -- ---- the method
   module _ (n : ℕ) (l : n ≤ 1) where
@@ -175,13 +147,9 @@ module _ (b : List ℕ) (v : Bool) (e : v ≡ bytesSound b) (t : not v ≡ false
     pub method-told : Done 0 ≡ answerOn b (methodOn b n)
     method-told = told b s (methodOn b n) _ (Done 0) method-leaves
 
-    pub method-cleared : (new : List ℕ)
-        → new ≡ take 2 (set b 0 n) ++ (zeros (size - 2) ++ drop size (set b 0 n))
-        → new ≡ bytesOn b (methodOn b n)
-    method-cleared new h = becomes b s (methodOn b n) _ 0 new method-leaves
-        (cleared (set b 0 n) new _ (set-size b 0 n long)
-        (first b n (omega (arith, long))
-        ∙ spelt _ _ (withMethod (compositionOf b .settings) (methodOf n)) (sym (method-forth n l)) (mode-field b s _ refl)) h)
+    pub method-cleared : ((k : ℕ) → Fits w8 (byteAt b k)) → (new : List ℕ) → new ≡ cleared (set b 0 n) → new ≡ bytesOn b (methodOn b n)
+    method-cleared f new h = becomes b s (methodOn b n) _ 0 new method-leaves
+        (h ∙ emptied f 0 n _ (method-stored (compositionOf b) (methodOf n) n (sym (method-forth n l))))
 
     -- ---- the mode
     mode-leaves : (d : Composition) → ((on : Bool) → eqb n 0 ≡ on → d ≡ turned (compositionOf b) on)
@@ -216,13 +184,9 @@ module _ (b : List ℕ) (v : Bool) (e : v ≡ bytesSound b) (t : not v ≡ false
       pub mode-told : Done 0 ≡ answerOn b (modeOn b n)
       mode-told = told b s (modeOn b n) _ (Done 0) english-leaves
 
-      pub mode-cleared : (new : List ℕ)
-          → new ≡ take 2 (set b 1 n) ++ (zeros (size - 2) ++ drop size (set b 1 n))
-          → new ≡ bytesOn b (modeOn b n)
-      mode-cleared new h = becomes b s (modeOn b n) _ 0 new english-leaves
-          (cleared (set b 1 n) new _ (set-size b 1 n long)
-          (second b n (omega (arith, long)) ∙ spelt _ _ (withMode (compositionOf b .settings) English) (method-field b s _ refl)
-          (omega arith)) h)
+      pub mode-cleared : ((k : ℕ) → Fits w8 (byteAt b k)) → (new : List ℕ) → new ≡ cleared (set b 1 n) → new ≡ bytesOn b (modeOn b n)
+      mode-cleared f new h = becomes b s (modeOn b n) _ 0 new english-leaves
+          (h ∙ emptied f 1 n _ (mode-stored (compositionOf b) English n (omega arith)))
 
   -- ---- the literal
   module _ (ch : ℕ) (u : Bool) (a : u ≡ inAlphabet ch) where

@@ -44,8 +44,7 @@ fn text(b: &[u8], n: usize, out: &mut [u32])
 {
     let mut i: usize = 0;
     while i < n {
-        let x = bytes::cell(b, i);
-        out[i] = cells::shown(x);
+        out[i] = bytes::shown(b, i);
         i += 1;
     }
 }
@@ -145,7 +144,7 @@ pub fn reset(state: &mut [u8]) -> Answer
     if !bytes::bytes_ok(state) {
         return Answer::Refused(Refusal::Unsound);
     }
-    zeros::put_zeros(state, 2, bytes::SIZE);
+    bytes::clear(state);
     Answer::Done(0)
 }
 
@@ -313,7 +312,7 @@ pub fn set_method(state: &mut [u8], method: u32) -> Answer
         return Answer::Refused(Refusal::Unsound);
     }
     state[0] = method as u8;
-    zeros::put_zeros(state, 2, bytes::SIZE);
+    bytes::clear(state);
     Answer::Done(0)
 }
 
@@ -331,7 +330,7 @@ pub fn set_mode(state: &mut [u8], mode: u32) -> Answer
     if mode == 0 {
         return Answer::Done(0);
     }
-    zeros::put_zeros(state, 2, bytes::SIZE);
+    bytes::clear(state);
     Answer::Done(0)
 }
 

@@ -23,7 +23,7 @@ use Rattle.p5_utf8_text.proofs.Exact.{letters-exactly}
 use Rattle.p7_line.specs.declared.Begun.{Begun}
 use Rattle.p7_line.specs.declared.Begun.the-variants.{Refused as Not}
 use Rattle.p2_input_method.specs.declared.InputMethod.{InputMethod}
-use Rattle.p3_calls.specs.Settings.{atFirst}
+use Rattle.p3_cells.specs.Settings.{atFirst}
 use Rattle.p7_line.specs.Line.{keysMade, madeLine, refusedLine, keysLine, lineOut}
 use Rattle.p7_line.specs.Method.{methodNamed, begunBy}
 

@@ -24,7 +24,8 @@ use Rattle.p3_cells.specs.declared.Mode.{Mode}
 use Rattle.p3_cells.specs.declared.Mode.the-variants.{Vietnamese}
 use Rattle.p3_cells.specs.declared.Settings.{Settings}
 use Rattle.p0_refusals.specs.declared.Answer.the-variants.{Done, Refused}
-use Rattle.p3_calls.specs.Settings.{atFirst, created}
+use Rattle.p3_cells.specs.Settings.{atFirst}
+use Rattle.p3_calls.specs.Settings.{created}
 use Rattle.p3_calls.proofs.Kept.{new-sound}
 use Rattle.p3_cells.proofs.Holding.{used-held, settings-held, used-length, used-cells, count-fits}
 use Rattle.p3_step.specs.Key.{keyCells}

@@ -14,7 +14,7 @@ use Rattle.p3_cells.specs.Cells.{limit}
 use Rattle.p3_cells.specs.Text.{textOf}
 use Rattle.p3_cells.specs.declared.Cell.{Cell}
 use Rattle.p3_cells.specs.declared.Settings.{Settings}
-use Rattle.p3_calls.specs.Settings.{atFirst}
+use Rattle.p3_cells.specs.Settings.{atFirst}
 use Rattle.p3_step.specs.Key.{keyCells}
 use Rattle.p4_spelling.specs.Verdict.{verdict}
 use Rattle.p0_refusals.specs.Answers.{Outcome, writes, refuses}

@@ -10,7 +10,7 @@ ghost use Rattle.p5_utf8.specs.Rfc3629.{encodeAll};
 ghost use Rattle.p4_rows.specs.Lookup.{sameWord};
 ghost use Rattle.p0_refusals.specs.Answers.{writes};
 ghost use mathlib.Core.List.{[]};
-ghost use Rattle.p3_calls.specs.Settings.{atFirst};
+ghost use Rattle.p3_cells.specs.Settings.{atFirst};
 ghost use Rattle.p7_line.specs.Line.{refusedLine, textLine, keysMade, madeLine, lineOut};
 ghost use Rattle.p7_line.specs.Mirror.{lineRoom};
 ghost use Rattle.p7_line.specs.Mirror.{textBytes};

@@ -1,6 +1,6 @@
 use borrow.Author.Needs.{needs}
 use Rattle.p6_composition.proofs.Calls.{new-size, new-size-bytes, new-method, new-method-bytes, new-done, new-room, new-done-bytes}
-use Rattle.p6_composition.proofs.InPlace.{set-length}
+use Rattle.p6_bytes.proofs.Stored.{set-length}
 use Rattle.p6_composition.proofs.new.Statement.{statement}
 use Rattle.p6_composition.proofs.new.Tie as tie
 
