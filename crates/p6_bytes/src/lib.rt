@@ -94,7 +94,8 @@ fn cells_fit(b: &[u8], n: usize) -> bool
     true
 }
 
-// The bytes of a sound composition.
+// The bytes of a sound composition. Those past the cells in use are lent as a part, so that the slice itself is handed on to
+// no call, for which it would be copied.
 pub fn bytes_ok(b: &[u8]) -> bool
     ensures { λ r. ⌜ r ≡ bytesSound (now (b .entry)) ⌝ }
 {
@@ -117,7 +118,7 @@ pub fn bytes_ok(b: &[u8]) -> bool
     if !cells_fit(b, n) {
         return false;
     }
-    zeros::zero_from(b, HEAD + 8 * n)
+    zeros::zero_from(&b[HEAD + 8 * n..SIZE], 0)
 }
 
 // ---- its settings and numbers, each of which is one byte
