@@ -118,7 +118,7 @@ pub fn bytes_ok(b: &[u8]) -> bool
     if !cells_fit(b, n) {
         return false;
     }
-    zeros::zero_from(&b[HEAD + 8 * n..SIZE], 0)
+    zeros::all_zero(&b[HEAD + 8 * n..SIZE])
 }
 
 // ---- its settings and numbers, each of which is one byte
