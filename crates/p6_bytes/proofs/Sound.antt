@@ -7,7 +7,7 @@ use mathlib.Core.List.{List}
 use mathlib.Core.Logic.{⊎-elim}
 use native.Mathlib.Omega.{arith}
 use lib.Dec.{eqb, leb}
-use lib.ListN.{length, take}
+use lib.ListN.{length, take, drop, length-drop}
 use lib.Seq.{take-all}
 use borrow.Author.Tests.{eq-eqb, eqb-true, eqb-false, le-leb, leb-true, not-true, not-false}
 use Rattle.p0_choice.specs.Choice.{each, from}
@@ -25,6 +25,7 @@ use Rattle.p6_bytes.specs.Bytes.{reservedZero, bytesSound}
 use Rattle.p6_zeros.specs.Zeros.{isZero}
 use Rattle.p6_bytes.specs.Mirror.{cellFits, cellsFit}
 use Rattle.p6_zeros.specs.Mirror.{zeroIn, zeroFrom}
+use Rattle.p6_zeros.proofs.Zeros.{part-zero}
 use Rattle.p6_bytes.proofs.Reading.{cells-length, cells-at}
 
 each-is : (p : ℕ → Bool) (n i : ℕ) → each p (from n i) ≡ true → (j : ℕ) → i ≤ j → j < i + n → p j ≡ true
@@ -225,12 +226,14 @@ module _ (b : List ℕ) where
           past = λ i k h. rw (cells-at limit b head i h) (zero-blank b i (past-zero i (omega arith) h));
         }
 
-    -- the last test decides
-    pub zero-decides : (r w v : Bool) → length b ≡ size → byteAt b 0 ≤ 1 → byteAt b 1 ≤ 1 → n ≤ limit → w ≡ reservedZero b → not w ≡ false
-        → v ≡ cellsFit b n → not v ≡ false → r ≡ zeroFrom (take size b) (start n)
+    -- the last test decides, on the part past the cells in use
+    pub zero-decides : (r w v : Bool) (part : List ℕ) → length b ≡ size → byteAt b 0 ≤ 1 → byteAt b 1 ≤ 1 → n ≤ limit → w ≡ reservedZero b
+        → not w ≡ false → v ≡ cellsFit b n → not v ≡ false → part ≡ take (size - start n) (drop (start n) b) → r ≡ zeroFrom part 0
         → r ≡ bytesSound b
-    zero-decides r w v l m o f g d q t z =
-        let e : r ≡ zeroFrom b (start n) = rw (take-all size b (omega arith)) at z in
+    zero-decides r w v part l m o f g d q t h k =
+        let a : take (size - start n) (drop (start n) b) ≡ drop (start n) b =
+        take-all (size - start n) (drop (start n) b) (omega (arith, length-drop (start n) b)) in
+        let e : r ≡ zeroFrom b (start n) = k ∙ ap (λ (x : List ℕ). zeroFrom x 0) (h ∙ a) ∙ part-zero b (start n) in
         both r (bytesSound b) (λ (h : r ≡ true). tests-sound l m o f (sym g ∙ not-false w d) (sym q ∙ not-false v t) (sym e ∙ h))
         (λ (h : bytesSound b ≡ true). e ∙ rw p (sound-zero b h))
       where

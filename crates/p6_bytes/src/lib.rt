@@ -101,7 +101,8 @@ fn cells_fit(b: &[u8], n: usize) -> bool
     true
 }
 
-// The bytes of a sound composition. The zeros are searched in a slice of their own: `b` would be copied to be lent on.
+// The bytes of a sound composition. Those past the cells in use are lent as a part, so that the slice itself is handed on to
+// no call, for which it would be copied.
 pub fn bytes_ok(b: &[u8]) -> bool
     ensures { λ r. ⌜ r ≡ bytesSound (now (b .entry)) ⌝ }
 {
@@ -124,7 +125,7 @@ pub fn bytes_ok(b: &[u8]) -> bool
     if !cells_fit(b, n) {
         return false;
     }
-    zeros::zero_from(&b[0..SIZE], HEAD + 8 * n)
+    zeros::all_zero(&b[HEAD + 8 * n..SIZE])
 }
 
 // ---- its settings and numbers, each of which is one byte

@@ -1,12 +1,11 @@
 -- Each way through undo on bytes. What it leaves is what the undo by value leaves (p3_undo, proofs/Call).
-use Prim.Native.Nat.{ℕ, _+_, _-_, _<_, _≤_}
+use Prim.Native.Nat.{ℕ, _-_, _<_, _≤_}
 use Prim.Native.Char.{code}
 use mathlib.Core.Path.{_≡_, refl, sym, ap, _∙_}
 use mathlib.Core.Bool.{Bool, true, false, not}
 use mathlib.Core.List.{List}
-use native.Mathlib.Omega.{arith}
 use lib.Dec.{eqb}
-use lib.ListN.{length, take, drop, set}
+use lib.ListN.{length, take, drop}
 use mir.Syntax.{w8}
 use mir.Val.{Fits}
 use Rattle.p0_choice.specs.Choice.{pick}
@@ -23,7 +22,7 @@ use Rattle.p3_cells.specs.Mirror.{cellOf, firstCells, withCell}
 use Rattle.p3_cells.specs.declared.Cell.{Cell}
 use Rattle.p3_cells.specs.declared.Settings.{Settings}
 use Rattle.p3_undo.specs.Call.{behaviour, notUndone, undoTelex}
-use Rattle.p3_undo.specs.Mirror.{sign, signs, signCells}
+use Rattle.p3_undo.specs.Mirror.{signs, signCells}
 use Rattle.p3_undo.specs.Raw.{rawLowered}
 use Rattle.p3_undo.specs.Undo.{toUndo, toneLost, restored}
 use Rattle.p3_undo.specs.declared.TelexUndo.{TelexUndo}
@@ -32,12 +31,11 @@ use Rattle.p3_undo.specs.declared.Undoing.{Undoing}
 use Rattle.p3_undo.specs.declared.Undoing.the-variants.{Nothing, Tone, Mark}
 use Rattle.p3_undo.proofs.Call.{undo-nothing, undo-toneless, undo-restored, undo-long, undo-foreign, undo-raw, undo-done}
 use Rattle.p3_undo.proofs.Found.{tone-place, mark-place}
-use Rattle.p3_undo.proofs.Signs.{Signed, signed-none, signed-more, signed-all, row-finds}
+use Rattle.p3_undo.proofs.Signs.{row-finds}
 use Rattle.p6_bytes.specs.Bytes.{bytesOf, compositionOf, bytesSound}
 use Rattle.p6_zeros.specs.Zeros.{byteAt}
 use Rattle.p6_bytes.specs.Mirror.{stored}
 use Rattle.p6_bytes.proofs.Sound.{sound-composition}
-use Rattle.p6_bytes.proofs.Stored.{cells-all}
 use Rattle.p6_composition.specs.UndoAnswer.{undoAnswer, undoLeaving}
 use Rattle.p6_composition.specs.Calls.{answerOn, bytesOn, undoOn}
 use Rattle.p6_composition.specs.Mirror.{foundOn}
@@ -65,18 +63,6 @@ done-by r = go (eqb (r .first) (code "d")) (eqb (r .key) (code "d"))
     go false b = (0, refl)
 
 -- ---- the row
-pub signs-start : (b row : List ℕ) → Signed (compositionOf b) row 0
-signs-start b row = signed-none (compositionOf b) row
-
-pub signs-on : (b row : List ℕ) (i n v : ℕ) (x : Cell) → Signed (compositionOf b) row i → i < n → n ≤ limit → n ≤ length row
-    → x ≡ cellOf (compositionOf b) i → v ≡ sign x
-    → Signed (compositionOf b) (set row i v) (i + 1)
-signs-on b row i n v x f h l m e q = signed-more (compositionOf b) row i n v x f e q h m (omega (arith, cells-all b))
-
-pub signs-done : (b row : List ℕ) (i n : ℕ) → Signed (compositionOf b) row i → i ≤ n → n ≤ i
-    → take n row ≡ signs (firstCells (compositionOf b) n)
-signs-done b row i n f l h = signed-all (compositionOf b) row i n f l h
-
 pub undo-on : (b : List ℕ) → bytesSound b ≡ true → (z : Settings) (n : ℕ) (row part raw : List ℕ) (t : ℕ) (u : Undoing)
     → z ≡ compositionOf b .settings → n ≡ compositionOf b .count → take n row ≡ signs (firstCells (compositionOf b) n)
     → part ≡ take (n - 0) (drop 0 row) → u ≡ toUndo (z .method) (signCells part) raw t

@@ -9,8 +9,8 @@ last-zero-only κs a = (tt, λ z z′ w w′ q q′. (alike q q′, refl))
 pub long-at-only : OneAnswerAsked own.long_at.Kinds.ps own.long_at.Kinds.r own.long_at.Reads.Asked own.long_at.Reads.Learnt
 long-at-only κs a asked z z′ w w′ q q′ = (alike q q′, refl)
 
-pub zero-from-only : OneAnswerAsked own.zero_from.Kinds.ps own.zero_from.Kinds.r own.zero_from.Reads.Asked own.zero_from.Reads.Learnt
-zero-from-only κs a asked z z′ w w′ q q′ = (alike q q′, refl)
+pub all-zero-only : OneAnswer own.all_zero.Kinds.ps own.all_zero.Kinds.r own.all_zero.Reads.Asked own.all_zero.Reads.Learnt
+all-zero-only κs a = (tt, λ z z′ w w′ q q′. (alike q q′, refl))
 
 pub put-zeros-only : OneAnswerAsked own.put_zeros.Kinds.ps own.put_zeros.Kinds.r own.put_zeros.Reads.Asked own.put_zeros.Reads.Learnt
 put-zeros-only κs a asked z z′ w w′ q q′ = (refl, λ i. (alike q q′ i, (tt, (tt, tt))))

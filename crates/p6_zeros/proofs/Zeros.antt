@@ -6,7 +6,8 @@ use mathlib.Core.List.{List}
 use native.Mathlib.Omega.{arith}
 use lib.Dec.{eqb, ltb}
 use lib.Bits.{bitOr, or-zero-l, or-add-and, and-le-r}
-use lib.ListN.{length}
+use lib.ListN.{length, drop, length-drop}
+use lib.Seq.{getD-drop}
 use borrow.Author.Tests.{eq-eqb, ne-eqb, eqb-true, eqb-false, lt-ltb, le-ltb}
 use Rattle.p0_choice.specs.Choice.{pick, each, from as numbers}
 use Rattle.p6_zeros.specs.Zeros.{byteAt, isZero}
@@ -204,3 +205,17 @@ pub long-read : (b : List ℕ) (at n : ℕ)
     → n ≡ longAt b at
 unfolding longAt
 long-read b at n e = e
+
+-- ---- a part of the bytes
+shifted : (b : List ℕ) (s n i : ℕ) → each (isZero (drop s b)) (numbers n i) ≡ each (isZero b) (numbers n (s + i))
+unfolding isZero
+shifted b s zero i = refl
+shifted b s (suc n) i = let e : s + suc i ≡ suc (s + i) = omega arith in rw (← e, getD-drop s b i 0, shifted b s n (suc i)) refl
+
+-- the bytes from a place on, as a part of their own
+pub part-zero : (b : List ℕ) (s : ℕ) → zeroFrom (drop s b) 0 ≡ zeroFrom b s
+unfolding zeroFrom zeroIn
+part-zero b s =
+    let l : length (drop s b) - 0 ≡ length b - s = omega (arith, length-drop s b) in
+    let z : s + 0 ≡ s = omega arith in
+    rw (l, shifted b s (length b - s) 0, z) refl

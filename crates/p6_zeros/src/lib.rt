@@ -77,12 +77,11 @@ fn greater(a: u8, b: u8) -> u8
     a
 }
 
-fn few_zero(b: &[u8], at: usize) -> bool
-    requires { ⌜ at ≤ length (now b) ⌝ }
-    ensures { λ r. ⌜ r ≡ zeroFrom (now (b .entry)) at ⌝ }
+fn few_zero(b: &[u8]) -> bool
+    ensures { λ r. ⌜ r ≡ zeroFrom (now (b .entry)) 0 ⌝ }
 {
     let mut most: u8 = 0;
-    let mut i = at;
+    let mut i: usize = 0;
     while i < b.len() {
         most = greater(most, b[i]);
         i += 1;
@@ -91,16 +90,15 @@ fn few_zero(b: &[u8], at: usize) -> bool
 }
 
 // By blocks. The last one is taken from the end, over bytes that were seen.
-pub fn zero_from(b: &[u8], at: usize) -> bool
-    requires { ⌜ at ≤ length (now b) ⌝ }
-    ensures { λ r. ⌜ r ≡ zeroFrom (now (b .entry)) at ⌝ }
+pub fn all_zero(b: &[u8]) -> bool
+    ensures { λ r. ⌜ r ≡ zeroFrom (now (b .entry)) 0 ⌝ }
 {
     let n = b.len();
-    if n - at < BLOCK {
-        return few_zero(b, at);
+    if n < BLOCK {
+        return few_zero(b);
     }
     let last = n - BLOCK;
-    let mut i = at;
+    let mut i: usize = 0;
     while i < last {
         let w = block(b, i);
         if 0 < w {

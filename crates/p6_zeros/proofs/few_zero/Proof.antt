@@ -11,10 +11,10 @@ use Rattle.p6_zeros.proofs.few_zero.Statement.{statement}
 use Rattle.p6_zeros.proofs.few_zero.Tie as tie
 
 abbrev Inv-loop : tie.InvT-loop
-Inv-loop b at most₀ i₀ most i = (i ≤ length b) × (zeroFrom b at ≡ pick (eqb most 0) (zeroIn b (length b - i) i) false)
+Inv-loop b most₀ i₀ most i = (i ≤ length b) × (zeroFrom b 0 ≡ pick (eqb most 0) (zeroIn b (length b - i) i) false)
 
 abbrev μ-loop : tie.MeasureT-loop
-μ-loop b at most₀ i₀ most i = length b - i
+μ-loop b most₀ i₀ most i = length b - i
 
 ruleset answers = (needs, few-start, few-on, few-done, refl)
 
