@@ -25,3 +25,9 @@ cell-only κs a asked z z′ w w′ q q′ = (alike q q′, refl)
 
 pub store-only : OneAnswerAsked own.store.Kinds.ps own.store.Kinds.r own.store.Reads.Asked own.store.Reads.Learnt
 store-only κs a asked z z′ w w′ q q′ = (refl, λ i. (alike (q .1) (q′ .1) i, (tt, (tt, tt))))
+
+pub shown-only : OneAnswerAsked own.shown.Kinds.ps own.shown.Kinds.r own.shown.Reads.Asked own.shown.Reads.Learnt
+shown-only κs a asked z z′ w w′ q q′ = (alike q q′, refl)
+
+pub clear-only : OneAnswerAsked own.clear.Kinds.ps own.clear.Kinds.r own.clear.Reads.Asked own.clear.Reads.Learnt
+clear-only κs a asked z z′ w w′ q q′ = (refl, λ i. (alike q q′ i, tt))

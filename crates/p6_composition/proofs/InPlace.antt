@@ -2,10 +2,10 @@
 use Prim.Native.Nat.{ℕ, _+_, _-_, _<_, _≤_}
 use mathlib.Core.Path.{_≡_, refl, sym, ap, _∙_}
 use mathlib.Core.Bool.{Bool, true, false, not}
-use mathlib.Core.List.{List, [], _∷_, _++_}
+use mathlib.Core.List.{List, [], _++_}
 use native.Mathlib.Omega.{arith}
 use lib.Dec.{eqb}
-use lib.ListN.{length, take, drop, set, length-set}
+use lib.ListN.{length, drop, set, length-set}
 use borrow.Author.Tests.{eq-eqb, ne-eqb, le-leb}
 use mir.Syntax.{w8}
 use mir.Val.{Fits}
@@ -117,9 +117,6 @@ module _ (b : List ℕ) (v : Bool) (e : v ≡ bytesSound b) (t : not v ≡ false
 
   whole : true ≡ isSound (compositionOf b)
   whole = sym (sound-composition b s)
-
-  long : length b ≡ size
-  long = sound-size b s
 
   -- ---- the reset
   reset-leaves : record { comp = composed (compositionOf b .settings) []; answer = Done 0 } ≡ resetOn b
