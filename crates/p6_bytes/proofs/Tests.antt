@@ -5,8 +5,10 @@ use mathlib.Core.Bool.{Bool, true, false, not}
 use mathlib.Core.List.{List}
 use mathlib.Core.Logic.{inl}
 use native.Mathlib.Omega.{arith}
-use lib.Dec.{eqb}
-use borrow.Author.Tests.{ne-eqb, eqb-true, eqb-false, lt-ltb, le-leb, lt-leb, not-true, not-false}
+use lib.Dec.{eqb, ltb}
+use borrow.Author.Tests.{ne-eqb, eqb-true, eqb-false, lt-ltb, le-ltb, le-leb, lt-leb, not-true, not-false}
+use mir.Syntax.{w8}
+use mir.Val.{Fits}
 use Rattle.p0_choice.specs.Choice.{pick, each, from as numbers}
 use Rattle.p0_choice.proofs.Tests.{are-both}
 use Rattle.p1_letters.specs.Alphabet.{inAlphabet}
@@ -39,17 +41,24 @@ sum-zero x y = go (eqb x 0) refl
     go true e = let z : x + y ≡ y = omega (arith, eqb-true x 0 e) in rw z refl
     go false e = sym (ne-eqb (x + y) 0 (λ (q : x + y ≡ 0). eqb-false x 0 e (omega arith)))
 
-pub free : (b : List ℕ) (r : Bool) → r ≡ eqb (byteAt b 3 + (byteAt b 4 + (byteAt b 5 + (byteAt b 6 + byteAt b 7)))) 0 → r ≡ reservedZero b
+abbrev rest : List ℕ → ℕ
+rest b = byteAt b 3 + (byteAt b 4 + (byteAt b 5 + (byteAt b 6 + byteAt b 7)))
+
+below : (b : List ℕ) → ((k : ℕ) → Fits w8 (byteAt b k)) → (w : ℕ) (t : Bool) → w ≡ longAt b 0 → eqb (rest b) 0 ≡ t → ltb w 16777216 ≡ t
+unfolding longAt
+below b f w true p e = lt-ltb w 16777216 (omega (arith, eqb-true (rest b) 0 e, f 0 .fits, f 1 .fits, f 2 .fits))
+below b f w false p e = le-ltb w 16777216 (omega (arith, eqb-false (rest b) 0 e))
+
+pub free : (b : List ℕ) → ((k : ℕ) → Fits w8 (byteAt b k)) → (w : ℕ) → w ≡ longAt b 0 → ltb w 16777216 ≡ reservedZero b
 unfolding reservedZero isZero
-free b r e =
-    e
+free b f w p =
+    below b f w _ p refl
     ∙ sym (rw (
       whole (eqb (byteAt b 7) 0),
       sum-zero (byteAt b 6) (byteAt b 7),
       sum-zero (byteAt b 5) _,
       sum-zero (byteAt b 4) _,
-      sum-zero
-          (byteAt b 3) _,
+      sum-zero (byteAt b 3) _,
     ) refl)
 
 -- ---- one cell

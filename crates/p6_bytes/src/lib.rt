@@ -57,12 +57,12 @@ fn cell_at(b: &[u8], at: usize) -> Cell
 
 // ---- soundness
 
-// The bytes of the head that say nothing.
+// The bytes of the head that say nothing: as one number it is below 256 to the third, as three bytes say something.
 fn reserved_zero(b: &[u8]) -> bool
     requires { ⌜ length (now b) ≡ size ⌝ }
     ensures { λ r. ⌜ r ≡ reservedZero (now (b .entry)) ⌝ }
 {
-    zeros::last_zero(b[0], b[1], b[2], b[3], b[4], b[5], b[6], b[7])
+    zeros::long_at(b, 0) < 16777216
 }
 
 // Most cells are an ASCII letter alone, which one comparison tells. With an arm for each flag the cell is one load.

@@ -3,9 +3,6 @@ use mathlib.Core.Path.{refl}
 use Rattle.p0_choice.proofs.Only.{OneAnswer, OneAnswerAsked, alike}
 use Rattle.p6_zeros.proofs as own
 
-pub last-zero-only : OneAnswer own.last_zero.Kinds.ps own.last_zero.Kinds.r own.last_zero.Reads.Asked own.last_zero.Reads.Learnt
-last-zero-only κs a = (tt, λ z z′ w w′ q q′. (alike q q′, refl))
-
 pub long-at-only : OneAnswerAsked own.long_at.Kinds.ps own.long_at.Kinds.r own.long_at.Reads.Asked own.long_at.Reads.Learnt
 long-at-only κs a asked z z′ w w′ q q′ = (alike q q′, refl)
 

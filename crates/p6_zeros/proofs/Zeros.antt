@@ -187,18 +187,7 @@ module _ (b : List ℕ) (at : ℕ) where
       front true y h = refl
       front false y h = let z : _≡_ {A = ℕ} 0 1 = cc in absurd (omega arith)
 
--- ---- the last five of eight bytes
--- all eight as a number n: it is below 256 to the third where the last five are 0
-module _ (b0 b1 b2 b3 b4 b5 b6 b7 : ℕ) (h0 : b0 < 256) (h1 : b1 < 256) (h2 : b2 < 256) where
-  below-as : (n : ℕ) (t : Bool) → n ≡ b0 + b1 * 256 + b2 * 65536 + b3 * 16777216 + b4 * 4294967296 + b5 * 1099511627776 + b6 *
-      281474976710656 + b7 * 72057594037927936 → eqb (b3 + (b4 + (b5 + (b6 + b7)))) 0 ≡ t → ltb n 16777216 ≡ t
-  below-as n true p e = let z = eqb-true (b3 + (b4 + (b5 + (b6 + b7)))) 0 e in lt-ltb n 16777216 (omega arith)
-  below-as n false p e = le-ltb n 16777216 (omega (arith, eqb-false (b3 + (b4 + (b5 + (b6 + b7)))) 0 e))
-
-  pub below : (n : ℕ) → n ≡ b0 + b1 * 256 + b2 * 65536 + b3 * 16777216 + b4 * 4294967296 + b5 * 1099511627776 + b6 * 281474976710656
-      + b7 * 72057594037927936 → ltb n 16777216 ≡ eqb (b3 + (b4 + (b5 + (b6 + b7)))) 0
-  below n p = below-as n _ p refl
-
+-- ---- eight bytes as one number
 pub long-read : (b : List ℕ) (at n : ℕ)
     → n ≡ byteAt b at + byteAt b (at + 1) * 256 + byteAt b (at + 2) * 65536 + byteAt b (at + 3) * 16777216 + byteAt b (at + 4) * 4294967296
     + byteAt b (at + 5) * 1099511627776 + byteAt b (at + 6) * 281474976710656 + byteAt b (at + 7) * 72057594037927936

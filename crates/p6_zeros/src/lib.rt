@@ -22,13 +22,6 @@ fn eight(b0: u8, b1: u8, b2: u8, b3: u8, b4: u8, b5: u8, b6: u8, b7: u8) -> u64
     more + (b6 as u64) * 281474976710656 + (b7 as u64) * 72057594037927936
 }
 
-// Whether the last five of eight bytes are 0: the number is below 256 to the third then.
-pub fn last_zero(b0: u8, b1: u8, b2: u8, b3: u8, b4: u8, b5: u8, b6: u8, b7: u8) -> bool
-    ensures { λ r. ⌜ r ≡ eqb (b3 + (b4 + (b5 + (b6 + b7)))) 0 ⌝ }
-{
-    eight(b0, b1, b2, b3, b4, b5, b6, b7) < 16777216
-}
-
 pub fn long_at(b: &[u8], at: usize) -> u64
     requires { ⌜ at + 8 ≤ length (now b) ⌝ }
     ensures { λ r. ⌜ r ≡ longAt (now (b .entry)) at ⌝ }
