@@ -1,5 +1,4 @@
--- Demand 3 of any list: P is what it is to be listed. `NumberMeans P n (writes u)` is that the lister gives u for the number n,
--- and `Answers (NextMeans P w) o a out` what the next word after w answers and leaves in the output.
+-- Demand 3 of any list: P is what it is to be listed. proofs/Demand3.antt has the sentence of each law.
 use Prim.Native.Nat.{ℕ, suc, _≤_, _<_}
 use mathlib.Core.Path.{_≡_, refl, sym, ap, _∙_, subst}
 use mathlib.Core.List.{List}
@@ -96,7 +95,7 @@ module _ (u : Outcome) (o : List ℕ) (a : Answer) (g : a ≡ answer u (length o
       let k : x ≡ Short = cc in
       ap numberOf k
 
--- no listed word is longer
+-- no listed word has more letters than `most`, and the output has room for as many
 module _ (P : Word → Type 0) (most : ℕ) (within : (u : Word) → P u → length u ≤ most)
     (o : List ℕ) (a : Answer) (out : List ℕ) (room : most ≤ length o) (e : a ≡ Refused Short) where
   fits : (u : Word) → P u → length u ≤ length o
