@@ -6,6 +6,7 @@ use borrow.Author.Tests.{not-true, not-false}
 use Rattle.p0_choice.proofs.Choices.{pick-true, pick-false}
 use Rattle.p0_refusals.specs.Answers.{writes, refuses}
 use Rattle.p0_refusals.specs.declared.Refusal.the-variants.{Unsound}
+use Rattle.p3_cells.specs.Mirror.{withSettings}
 use Rattle.p3_cells.specs.Cells.{isSound, composed}
 use Rattle.p3_cells.specs.declared.Composition.{Composition}
 use Rattle.p3_cells.specs.declared.Mode.the-variants.{Vietnamese, English}
@@ -24,7 +25,7 @@ module _ (c : Composition) (s : Bool) (e : s ≡ isSound c) where
 
   -- "turning to Vietnamese empties nothing"
   pub turned-on : (on : Bool) → not s ≡ false → not on ≡ false
-      → record { cells = c .cells; settings = withMode (c .settings) Vietnamese; count = c .count } ≡ turned c on
+      → withSettings c (withMode (c .settings) Vietnamese) ≡ turned c on
   unfolding turned
   turned-on on h k = pick-true on _ _ _ (not-false on k) (holding-under c (sym e ∙ not-false s h) _)
 

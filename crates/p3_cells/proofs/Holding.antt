@@ -10,7 +10,7 @@ use lib.Seq.{length-take-le, take-append-seam, getD-take, getD-drop, getD-append
 use lib.Seq.{set-append-left, set-getD, set-set, set-split, set-at}
 use Rattle.p0_choice.specs.Choice.{each}
 use Rattle.p3_cells.specs.Cells.{limit, blank, blanks, isCell, isSound, used, composed, holding}
-use Rattle.p3_cells.specs.Mirror.{cellOf, withCell, withCount}
+use Rattle.p3_cells.specs.Mirror.{cellOf, withCell, withCount, withSettings}
 use Rattle.p3_cells.specs.declared.Cell.{Cell}
 use Rattle.p3_cells.specs.declared.Composition.{Composition}
 use Rattle.p3_cells.specs.declared.Settings.{Settings}
@@ -139,7 +139,7 @@ module _ (z : Settings) (xs : List Cell) where
 
 module _ (c : Composition) (s : isSound c ≡ true) where
   -- the same cells, under other settings
-  pub holding-under : (z : Settings) → record { cells = c .cells; settings = z; count = c .count } ≡ composed z (used c)
+  pub holding-under : (z : Settings) → withSettings c z ≡ composed z (used c)
   holding-under z = made z (used c) (c .cells) (c .count) (parted c s) (used-length c s)
 
   pub holding-used : c ≡ holding c (used c)

@@ -5,12 +5,11 @@ use mathlib.Core.Bool.{Bool, true, false}
 use mathlib.Core.Logic.{inl}
 use native.Mathlib.Omega.{arith}
 use lib.Dec.{eqb, ltb}
-use lib.ListN.{length}
 use borrow.Author.Tests.{lt-ltb, ltb-true, ltb-false}
 use Rattle.p0_choice.specs.Choice.{pick}
 use Rattle.p1_letters.specs.Alphabet.{inAlphabet}
 use Rattle.p3_cells.specs.Cells.{limit, isBlank, isCell, fitsAt, isSound}
-use Rattle.p3_cells.specs.Mirror.{cellOf}
+use Rattle.p3_cells.specs.Mirror.{cellOf, places}
 use Rattle.p3_cells.specs.declared.Cell.{Cell}
 use Rattle.p3_cells.specs.declared.Composition.{Composition}
 use Rattle.p3_cells.proofs.Soundness.{fits-used, fits-past, is-cell}
@@ -60,7 +59,7 @@ all-fit c t i e l = let d : limit - i ≡ 0 = omega arith in sym (rw d at e ∙ 
     same true = refl
     same false = refl
 
-tested : (c : Composition) (t i : ℕ) → length (c .cells) ≡ limit → fitsFrom c 0 ≡ faultsBy c t i → limit ≤ i
+tested : (c : Composition) (t i : ℕ) → places c ≡ limit → fitsFrom c 0 ≡ faultsBy c t i → limit ≤ i
     → pick (ltb limit (c .count)) false (eqb t 0) ≡ isSound c
 tested c t i n e l = go (ltb limit (c .count)) refl
   where
@@ -68,7 +67,7 @@ tested c t i n e l = go (ltb limit (c .count)) refl
     go true q = sound-long c (ltb-true limit (c .count) q)
     go false q = all-fit c t i e l ∙ sym (sound-start c n (ltb-false limit (c .count) q))
 
-pub faults-sound : (c : Composition) (t i : ℕ) (trusted s : Bool) → length (c .cells) ≡ limit → fitsFrom c 0 ≡ faultsBy c t i → limit ≤ i
+pub faults-sound : (c : Composition) (t i : ℕ) (trusted s : Bool) → places c ≡ limit → fitsFrom c 0 ≡ faultsBy c t i → limit ≤ i
     → (trusted ≡ true → isSound c ≡ true) → s ≡ soundBy trusted (c .count) t → s ≡ isSound c
 unfolding soundBy
 faults-sound c t i true s n e l h q = q ∙ sym (h refl)

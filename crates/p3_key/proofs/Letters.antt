@@ -7,7 +7,7 @@ use native.Mathlib.Numerals.{add-one}
 use lib.ListN.{length, getD, take, drop, set}
 use Rattle.p3_cells.specs.Cells.{blank}
 use Rattle.p3_cells.specs.Text.{shown}
-use Rattle.p3_cells.specs.Mirror.{cellOf, firstCells}
+use Rattle.p3_cells.specs.Mirror.{cellOf, firstCells, places}
 use Rattle.p3_cells.specs.declared.Cell.{Cell}
 use Rattle.p3_cells.specs.declared.Composition.{Composition}
 use Rattle.p3_cells.specs.declared.Mode.{Mode}
@@ -38,6 +38,6 @@ more f (x ∷ xs) (y ∷ o) zero h l = refl
 more f (x ∷ xs) (y ∷ o) (suc j) h l = ap (λ (t : List ℕ). f x ∷ t) (more f xs o j (omega arith) (omega arith))
 
 pub letters-more : (m : Mode) (key : ℕ) (c : Composition) (o out : List ℕ) (j v : ℕ) → out ≡ lettersTo m key c j o
-    → v ≡ letterFor m key (cellOf c j) → j < length (c .cells) → j < length o → set out j v ≡ lettersTo m key c (j + 1) o
+    → v ≡ letterFor m key (cellOf c j) → j < places c → j < length o → set out j v ≡ lettersTo m key c (j + 1) o
 unfolding lettersTo
 letters-more m key c o out j v e q h l = rw (e, q, add-one j) (more (letterFor m key) (c .cells) o j h l)

@@ -15,7 +15,7 @@ use Rattle.p3_cells.specs.declared.Mode.{Mode}
 use Rattle.p3_cells.proofs.Holding.{count-fits}
 use Rattle.p3_cells.proofs.SoundTest.{fitsFrom}
 use Rattle.p3_cells.specs.Row.{bases}
-use Rattle.p3_cells.specs.Mirror.{cellOf, withCell, withCount, rowCells}
+use Rattle.p3_cells.specs.Mirror.{cellOf, withCell, withCount, rowCells, places}
 use Rattle.p3_cells.proofs.Fill.{Filled, filled}
 use Rattle.p3_step.specs.Mirror.{put, alsoPut}
 use Rattle.p3_step.proofs.Makes.{stepped}
@@ -43,7 +43,7 @@ unsound m n c key r = refl
 
 -- the stroke: s is the answer of the soundness test, and the row has u bases
 stroke-known : (c : Composition) (key : ℕ) (o b : List ℕ) (trusted s : Bool) (t i j u : ℕ) (e : Stroke)
-    → length (c .cells) ≡ limit → fitsFrom c 0 ≡ faultsBy c t i → limit ≤ i
+    → places c ≡ limit → fitsFrom c 0 ≡ faultsBy c t i → limit ≤ i
     → (trusted ≡ true → isSound c ≡ true) → s ≡ soundBy trusted (c .count) t
     → u ≡ min (c .count) limit → Filled c b j → j ≤ u → u ≤ j
     → e ≡ strokeOf s (c .settings) (rowCells (take (u - 0) (drop 0 b))) key (c .count) (length o)
@@ -65,14 +65,14 @@ abbrev Stored : Composition → Stroke → Cell → Cell → Composition → Typ
 Stored c e q p d = d ≡ withCount (withCell (withCell c (e .step .also) q) (e .step .at) p) (e .step .count)
 
 pub letters-stored : (m : Mode) (key : ℕ) (c d : Composition) (e : Stroke) (q p : Cell) (o out : List ℕ) (j v : ℕ)
-    → length (c .cells) ≡ limit → Stored c e q p d → out ≡ lettersTo m key d j o → v ≡ letterFor m key (cellOf d j)
+    → places c ≡ limit → Stored c e q p d → out ≡ lettersTo m key d j o → v ≡ letterFor m key (cellOf d j)
     → j < e .letters → e .letters ≤ limit → e .letters ≤ length o → set out j v ≡ lettersTo m key d (j + 1) o
 letters-stored m key c d e q p o out j v l g h f t r r′ =
     letters-more m key d o out j v h f (rw (g, length-set, length-set, l) (omega arith)) (omega arith)
 
 -- ---- the return; the row is what was lent
 pub owner-right : (c d : Composition) (key : ℕ) (o out b row : List ℕ) (trusted s : Bool) (t i j u k r : ℕ) (e : Stroke) (p q : Cell)
-    → length (c .cells) ≡ limit → fitsFrom c 0 ≡ faultsBy c t i → limit ≤ i
+    → places c ≡ limit → fitsFrom c 0 ≡ faultsBy c t i → limit ≤ i
     → (trusted ≡ true → isSound c ≡ true) → s ≡ soundBy trusted (c .count) t
     → u ≡ min (c .count) limit → Filled c b j → j ≤ u → u ≤ j
     → row ≡ take (u - 0) (drop 0 b) → e ≡ strokeOf s (c .settings) (rowCells row) key (c .count) (length o)

@@ -26,7 +26,7 @@ use Rattle.p0_refusals.specs.declared.Answer.the-variants.{Done, Refused}
 use Rattle.p3_cells.proofs.Holding.{used-cells, used-held, holding-used}
 use Rattle.p3_cells.proofs.Soundness.{sound-length}
 use Rattle.p3_cells.specs.Row.{bases}
-use Rattle.p3_cells.specs.Mirror.{firstCells, rowCells}
+use Rattle.p3_cells.specs.Mirror.{firstCells, rowCells, places}
 use Rattle.p3_step.specs.Key.{keyCells}
 use Rattle.p3_step.specs.Mirror.{stepOf}
 use Rattle.p3_step.specs.declared.Step.{Step}
@@ -104,7 +104,7 @@ unfolding letterFor
 one-letter key [] h = absurd (omega arith)
 one-letter key (x ∷ xs) h = refl
 
-pass-right : (c : Composition) (key : ℕ) (o : List ℕ) → 0 < length (c .cells) → c .settings .mode ≡ English
+pass-right : (c : Composition) (key : ℕ) (o : List ℕ) → 0 < places c → c .settings .mode ≡ English
     → keyOutcome c key ≡ writes (writtenFor c key) → length (writtenFor c key) ≤ length o
     → length (writtenFor c key) ≡ 1 → Right c key o (wroteKey (c .count))
 unfolding lettersTo keyNext writtenFor

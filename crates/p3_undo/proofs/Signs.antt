@@ -19,7 +19,7 @@ use Rattle.p2_input_method.specs.declared.InputMethod.{InputMethod}
 use Rattle.p2_input_method.specs.declared.InputMethod.the-variants.{Telex, Vni}
 use Rattle.p2_input_method.specs.declared.MarkRule.{MarkRule}
 use Rattle.p3_cells.specs.Cells.{blank, marks, isCell, isSound, used}
-use Rattle.p3_cells.specs.Mirror.{cellOf, firstCells}
+use Rattle.p3_cells.specs.Mirror.{cellOf, firstCells, places}
 use Rattle.p3_cells.specs.declared.Cell.{Cell}
 use Rattle.p3_cells.specs.declared.Composition.{Composition}
 use Rattle.p3_cells.proofs.Holding.{used-cells}
@@ -37,11 +37,11 @@ unfolding Signed signs
 signed-none c row = refl
 
 pub signed-more : (c : Composition) (row : List ℕ) (i n v : ℕ) (x : Cell) → Signed c row i → x ≡ cellOf c i → v ≡ sign x
-    → i < n → n ≤ length row → n ≤ length (c .cells) → Signed c (set row i v) (i + 1)
+    → i < n → n ≤ length row → n ≤ places c → Signed c (set row i v) (i + 1)
 unfolding Signed signs
 signed-more c row i n v x e p q h k l =
     let a : i < length row = omega arith in
-    let b : i < length (c .cells) = omega arith in
+    let b : i < places c = omega arith in
     rw (add-one i, take-suc-set row i v a, take-suc (c .cells) i blank b, map-append sign (firstCells c i) (cellOf c i ∷ []), e, q, p) refl
 
 pub signed-all : (c : Composition) (row : List ℕ) (i n : ℕ) → Signed c row i → i ≤ n → n ≤ i → take n row ≡ signs (firstCells c n)

@@ -10,7 +10,7 @@ use mir.Syntax.{w8}
 use mir.Val.{Fits}
 use Rattle.p2_input_method.specs.declared.InputMethod.{InputMethod}
 use Rattle.p3_cells.specs.Cells.{limit, composed}
-use Rattle.p3_cells.specs.Mirror.{cellOf, withCell, withCount}
+use Rattle.p3_cells.specs.Mirror.{cellOf, places, withCell, withCount, withSettings}
 use Rattle.p3_cells.specs.Text.{letterOf, shown}
 use Rattle.p3_cells.specs.declared.Cell.{Cell}
 use Rattle.p3_cells.specs.declared.Composition.{Composition}
@@ -35,7 +35,7 @@ unfolding longAt cellAt
 flagless b at h = ne-eqb (byteAt b (at + 7)) 1 (λ e. omega arith)
 
 -- ---- read
-pub cells-all : (b : List ℕ) → length (compositionOf b .cells) ≡ limit
+pub cells-all : (b : List ℕ) → places (compositionOf b) ≡ limit
 unfolding compositionOf
 cells-all b = cells-length limit b head
 
@@ -69,7 +69,7 @@ cells-set (y ∷ ys) (suc i) x h =
     let f : 8 * suc i + 8 ≡ suc (suc (suc (suc (suc (suc (suc (suc (8 * i + 8)))))))) = omega arith in
     rw (f, e) (rw (cells-set ys i x (omega arith)) refl)
 
-pub cell-stored : (c : Composition) (i : ℕ) (x : Cell) → i < length (c .cells)
+pub cell-stored : (c : Composition) (i : ℕ) (x : Cell) → i < places c
     → stored (bytesOf c) i x ≡ bytesOf (withCell c i x)
 unfolding stored bytesOf headBytes
 cell-stored c i x h =
@@ -83,12 +83,12 @@ unfolding bytesOf headBytes
 count-stored c n = refl
 
 pub method-stored : (c : Composition) (m : InputMethod) (n : ℕ) → n ≡ methodByte m
-    → set (bytesOf c) 0 n ≡ bytesOf (record { cells = c .cells; settings = withMethod (c .settings) m; count = c .count })
+    → set (bytesOf c) 0 n ≡ bytesOf (withSettings c (withMethod (c .settings) m))
 unfolding bytesOf headBytes
 method-stored c m n e = rw e refl
 
 pub mode-stored : (c : Composition) (o : Mode) (n : ℕ) → n ≡ modeByte o
-    → set (bytesOf c) 1 n ≡ bytesOf (record { cells = c .cells; settings = withMode (c .settings) o; count = c .count })
+    → set (bytesOf c) 1 n ≡ bytesOf (withSettings c (withMode (c .settings) o))
 unfolding bytesOf headBytes
 mode-stored c o n e = rw e refl
 

@@ -19,7 +19,7 @@ use Rattle.p3_cells.specs.Cells.{limit, blank, typed, isSound, used, composed}
 use Rattle.p3_cells.specs.Leaving.{refusing}
 use Rattle.p3_cells.specs.Text.{shown, textOf}
 use Rattle.p3_cells.specs.declared.After.{After}
-use Rattle.p3_cells.specs.Mirror.{cellOf, firstCells, withCell, withCount}
+use Rattle.p3_cells.specs.Mirror.{cellOf, firstCells, withCell, withCount, withSettings, places}
 use Rattle.p3_cells.specs.declared.Cell.{Cell}
 use Rattle.p3_cells.specs.declared.Composition.{Composition}
 use Rattle.p3_cells.specs.declared.Mode.the-variants.{Vietnamese, English}
@@ -106,7 +106,7 @@ pub cell-in : (b : List ℕ) → ((k : ℕ) → Fits w8 (byteAt b k)) → bytesS
 cell-in b f s i x h =
     ap (λ (l : List ℕ). stored l i x) (sym (lent b f s)) ∙ cell-stored (compositionOf b) i x (omega (arith, cells-all b))
 
-pub both-stored : (c : Composition) (b s1 : List ℕ) (i m : ℕ) (x : Cell) → bytesOf c ≡ b → i < length (c .cells) → s1 ≡ stored b i x
+pub both-stored : (c : Composition) (b s1 : List ℕ) (i m : ℕ) (x : Cell) → bytesOf c ≡ b → i < places c → s1 ≡ stored b i x
     → set s1 2 m ≡ bytesOf (withCount (withCell c i x) m)
 both-stored c b s1 i m x q l h =
     rw (h, ← q) (ap (λ (y : List ℕ). set y 2 m) (cell-stored c i x l) ∙ count-stored _ m)
@@ -157,11 +157,7 @@ module _ (b : List ℕ) (v : Bool) (e : v ≡ bytesSound b) (t : not v ≡ false
 
     module _ (z : n ≡ 0) where
       vietnamese-leaves : record {
-        comp = record {
-          cells = compositionOf b .cells;
-          settings = withMode (compositionOf b .settings) Vietnamese;
-          count = compositionOf b .count;
-        };
+        comp = withSettings (compositionOf b) (withMode (compositionOf b .settings) Vietnamese);
         answer = Done 0;
       }
           ≡ modeOn b n

@@ -4,6 +4,7 @@ use lib.ListN.{length, length-set}
 use native.Mathlib.Omega.{arith}
 use borrow.Author.Needs.{needs}
 use Rattle.p3_cells.specs.Cells.{limit}
+use Rattle.p3_cells.specs.Mirror.{places}
 use Rattle.p3_cells.proofs.SoundTest.{fitsFrom}
 use Rattle.p3_cells.proofs.Text.{length-under}
 use Rattle.p3_cells.proofs.Fill.{Filled, fill-none, fill-more}
@@ -34,7 +35,7 @@ Inv-loop3 key out₀ trusted c n used faults i sound o e at also count j₀ out 
 abbrev μ-loop3 : tie.MeasureT-loop3
 μ-loop3 key out₀ trusted c n used faults i sound o e at also count j₀ out j = count - j
 
-long : (c : tie.Start Inv-loop μ-loop Inv-loop2 μ-loop2 Inv-loop3 μ-loop3) → length (c .args .t1 .cells) ≡ limit
+long : (c : tie.Start Inv-loop μ-loop Inv-loop2 μ-loop2 Inv-loop3 μ-loop3) → places (c .args .t1) ≡ limit
 long c = search length-under
 
 pub compose-spec : {M : Type 1} → statement M

@@ -2,6 +2,7 @@ use borrow.Author.Needs.{needs}
 use Prim.Native.Nat.{_≤_, _-_}
 use mathlib.Core.Path.{_≡_, refl}
 use lib.ListN.{length}
+use Rattle.p3_cells.specs.Mirror.{places}
 use Rattle.p3_cells.specs.Cells.{limit}
 use Rattle.p3_cells.proofs.Holding.{count-fits}
 use Rattle.p3_cells.proofs.Soundness.{sound-length}
@@ -11,7 +12,7 @@ use Rattle.p3_undo.proofs.find.Tie as tie
 
 abbrev Inv-loop : tie.InvT-loop
 Inv-loop raw t c n row₀ i₀ row i =
-    (i ≤ n) × (n ≤ limit) × (length row ≡ limit) × (n ≤ length row) × (n ≤ length (c .cells)) × Signed c row i
+    (i ≤ n) × (n ≤ limit) × (length row ≡ limit) × (n ≤ length row) × (n ≤ places c) × Signed c row i
 
 abbrev μ-loop : tie.MeasureT-loop
 μ-loop raw t c n row₀ i₀ row i = n - i

@@ -3,6 +3,7 @@ use Prim.Native.Nat.{_≤_, _-_}
 use mathlib.Core.Path.{_≡_, refl}
 use lib.ListN.{length}
 use Rattle.p3_undo.proofs.Signs.{Signed, signed-none, signed-more, signed-all}
+use Rattle.p3_cells.specs.Mirror.{places}
 use Rattle.p6_bytes.specs.Bytes.{compositionOf}
 use Rattle.p6_bytes.proofs.Stored.{cells-all}
 use Rattle.p6_composition.proofs.fill_signs.Statement.{statement}
@@ -10,7 +11,7 @@ use Rattle.p6_composition.proofs.fill_signs.Tie as tie
 
 abbrev Inv-loop : tie.InvT-loop
 Inv-loop b n row₀ i₀ row i =
-    (i ≤ n) × (length row ≡ length row₀) × (n ≤ length row) × (n ≤ length (compositionOf b .cells)) × Signed (compositionOf b) row i
+    (i ≤ n) × (length row ≡ length row₀) × (n ≤ length row) × (n ≤ places (compositionOf b)) × Signed (compositionOf b) row i
 
 abbrev μ-loop : tie.MeasureT-loop
 μ-loop b n row₀ i₀ row i = n - i
