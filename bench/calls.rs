@@ -30,6 +30,9 @@ mod host {
 const STATE: usize = 264;
 const TELEX: u32 = 0;
 
+/// A composition as bytes.
+pub type State = [u8; STATE];
+
 /// Types the keys under Telex, a fresh composition at each RESET. The last text is left in `text`. Answers how many keys
 /// were refused.
 pub type Typist = fn(keys: &[u32], text: &mut [u32]) -> usize;
@@ -51,7 +54,12 @@ pub fn floor(keys: &[u32], text: &mut [u32]) -> usize {
 
 /// By the C calls on a composition as bytes.
 pub fn host_keys(keys: &[u32], text: &mut [u32]) -> usize {
-    let (mut state, mut count, mut refused) = ([0; STATE], 0, 0);
+    host_typed(&mut [0; STATE], keys, text)
+}
+
+/// The same, on bytes that are lent: they hold the composition after the last key.
+pub fn host_typed(state: &mut State, keys: &[u32], text: &mut [u32]) -> usize {
+    let (mut count, mut refused) = (0, 0);
     let (out, room) = (text.as_mut_ptr(), text.len());
     refused += unsafe { host::pasdrongel_new(state.as_mut_ptr(), STATE, TELEX) };
     for &key in keys {
@@ -61,6 +69,10 @@ pub fn host_keys(keys: &[u32], text: &mut [u32]) -> usize {
         };
     }
     refused as usize
+}
+
+pub fn reset(state: &mut State) {
+    assert_eq!(unsafe { host::pasdrongel_reset(state.as_mut_ptr(), STATE) }, 0);
 }
 
 /// Whether the word is accepted.

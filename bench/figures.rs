@@ -52,6 +52,8 @@ pub const FIGURES: &[Figure] = &[
         ours: call_space, rust: engine!(key_space), floor: Some(floor_space) },
     Figure { name: "call-line", what: "C call on bytes, reset at each line's end", unit: "key",
         ours: call_line, rust: engine!(key_line), floor: Some(floor_line) },
+    Figure { name: "reset", what: "C call reset, after a copy of the bytes", unit: "word",
+        ours: reset, rust: None, floor: Some(copy) },
     Figure { name: "verdict", what: "verdict", unit: "word",
         ours: verdict, rust: engine!(verdict), floor: None },
     Figure { name: "cut", what: "cut", unit: "word",
@@ -109,6 +111,23 @@ fn floor_line(note: &mut Note) -> usize {
 
 fn floor_one(note: &mut Note) -> usize {
     typed(&note.one, calls::floor)
+}
+
+/// A copy of each word's composition is reset; the floor is the copy.
+fn reset(note: &mut Note) -> usize {
+    for state in &note.states {
+        let mut state = black_box(*state);
+        calls::reset(&mut state);
+        black_box(&state);
+    }
+    note.states.len()
+}
+
+fn copy(note: &mut Note) -> usize {
+    for state in &note.states {
+        black_box(&black_box(*state));
+    }
+    note.states.len()
 }
 
 // Words.

@@ -1,6 +1,6 @@
 //! The note, made ready for both sides: keys as numbers and as `char`, words as letters and as `String`.
 
-use crate::calls::{self, Typist};
+use crate::calls::{self, State, Typist};
 
 /// U+000A among the keys of a habit: here the composition starts afresh.
 pub const RESET: u32 = 0x0a;
@@ -45,6 +45,8 @@ pub struct Note {
     pub line: Habit,
     /// One line of all; a fresh composition where a key would need a 33rd cell, and that key opens it.
     pub one: Habit,
+    /// The composition after each word, as bytes.
+    pub states: Vec<State>,
     /// The words that the keys make, without digits and points.
     pub words: Vec<Text>,
     /// The lines that the keys make, each word composed by itself.
@@ -67,6 +69,7 @@ impl Note {
             space: Habit::new(keys.iter().map(spaces_reset).collect()),
             line: Habit::new(keys),
             one: Habit::new(reset_when_full(text)),
+            states: text.split_whitespace().map(state_of).collect(),
             words,
             lines,
             letters: [0; 256],
@@ -110,6 +113,14 @@ fn text_of(keys: &[u32], typist: Typist) -> Option<String> {
     let letters = text.iter().copied().take_while(|&code| code != NONE);
     // a mark or a tone takes no cell, so the text is never longer than the last one
     (refused == 0).then(|| letters.map(letter).collect())
+}
+
+/// The composition that a word's keys leave, as bytes.
+fn state_of(word: &str) -> State {
+    let mut state = [0; size_of::<State>()];
+    let keys: Vec<u32> = word.chars().map(u32::from).collect();
+    assert_eq!(calls::host_typed(&mut state, &keys, &mut [0; ROOM]), 0, "no key of the note is refused");
+    state
 }
 
 /// The text of a line, each word composed by itself.

@@ -33,7 +33,7 @@ extern "C" {
 
 /* No call takes more bytes of stack than this, counted from its return address on, memcpy and memset included. A loader that
  * binds these two at their first call takes its own then; a program that is linked with -z now has none. */
-#define PASDRONGEL_STACK_BYTES 1536
+#define PASDRONGEL_STACK_BYTES 640
 
 /* Memory. A call is lent buffers, each a pointer and a length, and places for one number, each a pointer. It reads and
  * writes nothing else, and keeps no pointer. The rest is for the host to see to: no call can test it.

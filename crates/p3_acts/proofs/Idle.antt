@@ -1,5 +1,5 @@
 -- The step of a key that does not act: it is appended, whatever the cells are.
-use Prim.Native.Nat.{ℕ, zero, suc, _+_}
+use Prim.Native.Nat.{ℕ, zero, suc}
 use Prim.Native.Char.{code}
 use mathlib.Core.Path.{_≡_, refl, sym, ap, _∙_}
 use mathlib.Core.Bool.{Bool, true, false}
@@ -17,11 +17,11 @@ use Rattle.p2_input_method.specs.declared.InputMethod.{InputMethod}
 use Rattle.p2_input_method.specs.declared.InputMethod.the-variants.{Telex, Vni}
 use Rattle.p2_input_method.specs.declared.MarkRule.{MarkRule}
 use Rattle.p3_cells.specs.declared.Cell.{Cell}
+use Rattle.p3_cells.specs.declared.Settings.{Settings}
 use Rattle.p3_cells.specs.declared.Place.the-variants.{Nowhere}
 use Rattle.p3_marks.specs.Mark.{markBack, markPlace}
 use Rattle.p3_marks.specs.Uo.{baseAt}
-use Rattle.p3_step.specs.Mirror.{toneFor, uoFor, uaFor, markStep, uaStep, uoStep, stepOf}
-use Rattle.p3_step.specs.declared.Change.the-variants.{Append}
+use Rattle.p3_step.specs.Mirror.{appendsAt, toneFor, uoFor, uaFor, markStep, uaStep, uoStep, stepOf}
 use Rattle.p3_acts.specs.Mirror.{actKeys, acts}
 
 -- ---- what does more than be appended acts
@@ -67,7 +67,6 @@ module _ (m : InputMethod) (k : ℕ) (i : acts m k ≡ false) where
   none-back cs (suc n) zero = refl
   none-back cs (suc n) (suc j) = rw (no-mark m (baseAt cs j) k i) (none-back cs n j)
 
-  pub idle-step : (cs : List Cell) (n : ℕ) → length cs ≡ n
-      → record { change = Append; at = n; also = n; mark = 0; count = n + 1 } ≡ stepOf m cs k
-  unfolding stepOf toneFor uoStep uoFor uaStep uaFor markStep markPlace
-  idle-step cs n l = rw (no-tone, no-horn, none-back cs 5 (length cs), l) refl
+pub idle-step : (z : Settings) (k : ℕ) → acts (z .method) k ≡ false → (cs : List Cell) (n : ℕ) → length cs ≡ n → appendsAt n ≡ stepOf z cs k
+unfolding stepOf toneFor uoStep uoFor uaStep uaFor markStep markPlace
+idle-step z k i cs n l = rw (no-tone (z .method) k i, no-horn (z .method) k i, none-back (z .method) k i cs 5 (length cs), l) refl

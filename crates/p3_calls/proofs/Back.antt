@@ -8,10 +8,11 @@ use lib.ListN.{length, take, length-append}
 use lib.Seq.{take-append-seam}
 use Rattle.p0_refusals.specs.Answers.{answer}
 use Rattle.p0_refusals.specs.declared.Answer.the-variants.{Done}
-use Rattle.p3_cells.specs.Cells.{typed, isSound, used, holding}
+use Rattle.p3_cells.specs.Cells.{typed, isSound, used, composed, holding}
 use Rattle.p3_cells.specs.declared.Cell.{Cell}
 use Rattle.p3_cells.specs.declared.Composition.{Composition}
-use Rattle.p3_cells.proofs.Holding.{used-holding, holding-again, holding-used}
+use Rattle.p3_cells.specs.declared.Settings.{Settings}
+use Rattle.p3_cells.proofs.Holding.{settings-held, used-held, holding-used}
 use Rattle.p3_cells.proofs.Leaving.{done-leaves}
 use Rattle.p3_calls.specs.Literal.{literalOutcome, literal}
 use Rattle.p3_calls.specs.Output.{left, removalOutcome, removed}
@@ -24,10 +25,10 @@ module _ (c : Composition) (s : isSound c ≡ true) where
   -- the cells after a removal, and the composition, where x was appended
   pub left-appended : (x : Cell) → left (holding c (used c ++ (x ∷ []))) ≡ used c
   unfolding left
-  left-appended x = rw (used-holding c (used c ++ (x ∷ []))) (without-last (used c) x)
+  left-appended x = rw (used-held (c .settings) (used c ++ (x ∷ []))) (without-last (used c) x)
 
   pub append-back : (x : Cell) → holding (holding c (used c ++ (x ∷ []))) (left (holding c (used c ++ (x ∷ [])))) ≡ c
-  append-back x = rw (left-appended x) (holding-again c (used c ++ (x ∷ [])) (used c) ∙ sym (holding-used c s))
+  append-back x = rw (left-appended x) (ap (λ (z : Settings). composed z (used c)) (settings-held _ _) ∙ sym (holding-used c s))
 
   -- the removal, whichever call made d of it
   pub removal-back : (x : Cell) (d : Composition) → d ≡ holding c (used c ++ (x ∷ [])) → (m j : ℕ) → removed d m .answer ≡ Done j

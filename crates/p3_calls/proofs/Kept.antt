@@ -13,15 +13,14 @@ use Rattle.p0_refusals.specs.declared.Answer.the-variants.{Done}
 use Rattle.p0_refusals.specs.declared.Refusal.the-variants.{Foreign, Full, Unsound}
 use Rattle.p1_letters.specs.Alphabet.{inAlphabet}
 use Rattle.p2_input_method.specs.declared.InputMethod.{InputMethod}
-use Rattle.p3_cells.specs.Cells.{limit, typed, isCell, isSound, used}
+use Rattle.p3_cells.specs.Cells.{limit, typed, isCell, isSound, used, composed}
 use Rattle.p3_cells.specs.declared.Composition.{Composition}
-use Rattle.p3_cells.specs.declared.Mode.{Mode}
+use Rattle.p3_cells.specs.declared.Settings.{Settings}
 use Rattle.p0_choice.proofs.Tests.{each-append, each-take}
 use Rattle.p3_cells.proofs.Made.{typed-cell}
 use Rattle.p3_cells.proofs.Leaving.{leaving-keeps}
-use Rattle.p3_cells.proofs.Holding.{length-blanks, blanks-at, count-fits, used-length, used-cells, holding-sound}
-use Rattle.p3_cells.proofs.Soundness.{is-sound, sound-cells}
-use Rattle.p3_calls.specs.Settings.{empty, created, settled, resetTo, methodSet, turned, enabledSet}
+use Rattle.p3_cells.proofs.Holding.{count-fits, used-length, used-cells, composed-sound}
+use Rattle.p3_calls.specs.Settings.{created, settled, resetTo, methodSet, turned, enabledSet}
 use Rattle.p3_calls.specs.Literal.{literalOutcome, literal}
 use Rattle.p3_calls.specs.Output.{left, removalOutcome, removed}
 
@@ -29,33 +28,26 @@ abbrev Sound : Composition → Type 0
 Sound c = isSound c ≡ true
 
 -- ---- a new composition, the reset and the settings
-empty-sound : (m : InputMethod) (mode : Mode) → isSound (empty m mode) ≡ true
-unfolding empty
-empty-sound m mode =
-    is-sound (empty m mode) (record {
-      whole = length-blanks limit;
-      few = omega arith;
-      inUse = λ i h. absurd (omega arith);
-      past = λ i l h. blanks-at limit i;
-    })
+empty-sound : (z : Settings) → isSound (composed z []) ≡ true
+empty-sound z = composed-sound z [] (omega arith) refl
 
 pub new-sound : (m : InputMethod) → isSound (created m) ≡ true
 unfolding created
-new-sound m = empty-sound m _
+new-sound m = empty-sound _
 
 module _ (c : Composition) (s : isSound c ≡ true) where
   pub reset-sound : isSound (resetTo c .comp) ≡ true
   unfolding resetTo
-  reset-sound = leaving-keeps Sound (answer (settled c) 0) c _ s (λ k e. empty-sound (c .method) (c .mode))
+  reset-sound = leaving-keeps Sound (answer (settled c) 0) c _ s (λ k e. empty-sound _)
 
   pub set-method-sound : (m : InputMethod) → isSound (methodSet c m .comp) ≡ true
   unfolding methodSet
-  set-method-sound m = leaving-keeps Sound (answer (settled c) 0) c _ s (λ k e. empty-sound m (c .mode))
+  set-method-sound m = leaving-keeps Sound (answer (settled c) 0) c _ s (λ k e. empty-sound _)
 
   turned-sound : (on : Bool) → isSound (turned c on) ≡ true
   unfolding turned
-  turned-sound true = sound-cells c (turned c true) refl refl s
-  turned-sound false = empty-sound (c .method) _
+  turned-sound true = composed-sound _ (used c) (omega (arith, used-length c s, count-fits c s)) (used-cells c s)
+  turned-sound false = empty-sound _
 
   pub set-enabled-sound : (on : Bool) → isSound (enabledSet c on .comp) ≡ true
   unfolding enabledSet
@@ -79,7 +71,7 @@ module _ (c : Composition) (s : isSound c ≡ true) where
   literal-sound ch =
       leaving-keeps Sound (answer (literalOutcome c ch) 0) c _ s
       (λ k e. let f = fits ch k e in
-      holding-sound c (used c ++ (typed ch ∷ [])) (rw length-append (omega arith))
+      composed-sound _ (used c ++ (typed ch ∷ [])) (rw length-append (omega arith))
       (each-append isCell (used c) (typed ch) (used-cells c s) (typed-cell ch (f .0))))
 
   -- ---- the removal
@@ -89,4 +81,4 @@ module _ (c : Composition) (s : isSound c ≡ true) where
       let l : length (take (length (used c) - 1) (used c)) ≤ limit
       = omega (arith, length-take (length (used c) - 1) (used c), used-length c s, count-fits c s) in
       leaving-keeps Sound (answer (removalOutcome c) m) c _ s
-      (λ k e. holding-sound c (left c) l (each-take isCell (length (used c) - 1) (used c) (used-cells c s)))
+      (λ k e. composed-sound _ (left c) l (each-take isCell (length (used c) - 1) (used c) (used-cells c s)))

@@ -4,7 +4,7 @@ use mathlib.Core.Path.{_≡_, refl, sym, _∙_}
 use mathlib.Core.Bool.{Bool, true, false, not}
 use mathlib.Core.List.{List, _++_}
 use native.Mathlib.Omega.{arith}
-use lib.ListN.{length, take, drop, set, length-map}
+use lib.ListN.{length, take, drop, length-map}
 use lib.Seq.{length-take-le}
 use borrow.Author.Tests.{eq-eqb, ne-eqb, not-true, not-false}
 use Rattle.p0_refusals.specs.Answers.{writes, refuses, answer, output}
@@ -13,11 +13,12 @@ use Rattle.p0_refusals.specs.declared.Refusal.the-variants.{Short, Empty, Unsou
 use Rattle.p0_refusals.proofs.Answers.{refuses-answer, refuses-output, short-answer, short-output, writes-answer, writes-output}
 use Rattle.p3_cells.specs.Cells.{limit, blank, isSound, used, holding}
 use Rattle.p3_cells.specs.Leaving.{refusing}
+use Rattle.p3_cells.specs.Mirror.{withCell, withCount}
 use Rattle.p3_cells.specs.Text.{shown, textOf}
 use Rattle.p3_cells.specs.declared.Cell.{Cell}
 use Rattle.p3_cells.specs.declared.After.{After}
 use Rattle.p3_cells.specs.declared.Composition.{Composition}
-use Rattle.p3_cells.proofs.Holding.{count-fits, used-length, used-holding, holding-less}
+use Rattle.p3_cells.proofs.Holding.{count-fits, used-length, used-held, holding-less}
 use Rattle.p3_cells.proofs.Leaving.{leaving-refused, leaving-short, leaving-done}
 use Rattle.p3_calls.specs.Output.{textOutcome, left, removalOutcome, removed}
 
@@ -119,7 +120,7 @@ module _ (c : Composition) (s : Bool) (e : s ≡ isSound c) where
 
       -- with x for its last cell, and one cell less
       abbrev shorter : Cell → Composition
-      shorter x = record { cells = set (c .cells) (c .count - 1) x; method = c .method; mode = c .mode; count = c .count - 1 }
+      shorter x = withCount (withCell c (c .count - 1) x) (c .count - 1)
 
       shorter-is : (x : Cell) → x ≡ blank → shorter x ≡ holding c (left c)
       shorter-is x b = rw (b, left-is) (holding-less c whole (omega arith))
@@ -132,7 +133,7 @@ module _ (c : Composition) (s : Bool) (e : s ≡ isSound c) where
       pub removal-done-out : (o out : List ℕ) (x : Cell) → x ≡ blank → c .count - 1 ≤ length o
           → out ≡ textOf (used (shorter x)) ++ drop (c .count - 1) o → out ≡ output (removalOutcome c) o
       removal-done-out o out x b l q =
-          writes-output _ _ removal-writes o out (rw less l) (rw less (rw (shorter-is x b, used-holding c (left c)) at q))
+          writes-output _ _ removal-writes o out (rw less l) (rw less (rw (shorter-is x b, used-held (c .settings) (left c)) at q))
 
 pub ruleset texts = (text-unsound, text-unsound-out, text-short, text-short-out, text-done, text-done-out)
 

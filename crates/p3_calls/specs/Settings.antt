@@ -6,19 +6,16 @@ use Rattle.p0_choice.specs.Choice.{pick}
 use Rattle.p0_refusals.specs.Answers.{Outcome, writes, refuses, answer}
 use Rattle.p0_refusals.specs.declared.Refusal.the-variants.{Unsound}
 use Rattle.p2_input_method.specs.declared.InputMethod.{InputMethod}
-use Rattle.p3_cells.specs.Cells.{limit, blanks, isSound}
+use Rattle.p3_cells.specs.Cells.{isSound, used, composed}
+use Rattle.p3_cells.specs.Settings.{atFirst, withMethod, withMode}
 use Rattle.p3_cells.specs.declared.Composition.{Composition}
-use Rattle.p3_cells.specs.declared.Mode.{Mode}
 use Rattle.p3_cells.specs.declared.Mode.the-variants.{Vietnamese, English}
 use Rattle.p3_cells.specs.Leaving.{leaving}
 use Rattle.p3_cells.specs.declared.After.{After}
 
--- no cells
-unfoldable pub empty : InputMethod → Mode → Composition
-empty m mode = record { cells = blanks limit; method = m; mode = mode; count = 0 }
-
+-- a new composition: no cells
 unfoldable pub created : InputMethod → Composition
-created m = empty m Vietnamese
+created m = composed (atFirst m) []
 
 -- "10: composition not sound"
 unfoldable pub settled : Composition → Outcome
@@ -26,16 +23,15 @@ settled c = pick (isSound c) (writes []) (refuses Unsound)
 
 -- "A reset empties the cells and keeps all else"
 unfoldable pub resetTo : Composition → After
-resetTo c = leaving (answer (settled c) 0) c (empty (c .method) (c .mode))
+resetTo c = leaving (answer (settled c) 0) c (composed (c .settings) [])
 
 -- "setting the method empties them and keeps the mode"
 unfoldable pub methodSet : Composition → InputMethod → After
-methodSet c m = leaving (answer (settled c) 0) c (empty m (c .mode))
+methodSet c m = leaving (answer (settled c) 0) c (composed (withMethod (c .settings) m) [])
 
 -- "Turning to English empties them, always; turning to Vietnamese empties nothing."
 unfoldable pub turned : Composition → Bool → Composition
-turned c on =
-    pick on (record { cells = c .cells; method = c .method; mode = Vietnamese; count = c .count }) (empty (c .method) English)
+turned c on = pick on (composed (withMode (c .settings) Vietnamese) (used c)) (composed (withMode (c .settings) English) [])
 
 unfoldable pub enabledSet : Composition → Bool → After
 enabledSet c on = leaving (answer (settled c) 0) c (turned c on)

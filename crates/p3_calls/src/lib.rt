@@ -1,10 +1,12 @@
 // The calls on a composition beside the key and undo (bamboo.rs), by value. Each takes any composition and refuses one that
 // is not sound; after a refusal the composition and the output are what they were.
 ghost use mathlib.Core.Path.{_≡_};
+ghost use mathlib.Core.List.{[]};
 ghost use lib.ListN.{length};
 ghost use Rattle.p0_refusals.specs.Answers.{answer, output};
+ghost use Rattle.p3_cells.specs.Cells.{composed};
 ghost use Rattle.p3_cells.specs.Leaving.{refusing};
-ghost use Rattle.p3_calls.specs.Settings.{empty as emptyOf, created, resetTo, methodSet, enabledSet};
+ghost use Rattle.p3_calls.specs.Settings.{created, resetTo, methodSet, enabledSet};
 ghost use Rattle.p3_calls.specs.Literal.{literal};
 ghost use Rattle.p3_calls.specs.Output.{textOutcome, removalOutcome, removed};
 use p0_refusals::Answer;
@@ -16,6 +18,7 @@ use p3_cells::After;
 use p3_cells::Composition;
 use p3_cells::LIMIT;
 use p3_cells::Mode;
+use p3_cells::Settings;
 
 fn refuse(c: Composition, why: Refusal) -> After
     ensures { λ r. ⌜ r ≡ refusing c why ⌝ }
@@ -26,15 +29,14 @@ fn refuse(c: Composition, why: Refusal) -> After
     }
 }
 
-fn empty(method: InputMethod, mode: Mode) -> Composition
-    ensures { λ r. ⌜ r ≡ emptyOf method mode ⌝ }
+fn empty(settings: Settings) -> Composition
+    ensures { λ r. ⌜ r ≡ composed settings [] ⌝ }
 {
     let z = cells::blank();
     let cs = [z; LIMIT];
     Composition {
         cells: cs,
-        method: method,
-        mode: mode,
+        settings: settings,
         count: 0,
     }
 }
@@ -42,7 +44,10 @@ fn empty(method: InputMethod, mode: Mode) -> Composition
 pub fn new(method: InputMethod) -> Composition
     ensures { λ r. ⌜ r ≡ created method ⌝ }
 {
-    empty(method, Mode::Vietnamese)
+    empty(Settings {
+        method: method,
+        mode: Mode::Vietnamese,
+    })
 }
 
 pub fn reset(c: Composition) -> After
@@ -51,9 +56,7 @@ pub fn reset(c: Composition) -> After
     if !cells::sound(c) {
         return refuse(c, Refusal::Unsound);
     }
-    let m = c.method;
-    let mode = c.mode;
-    let d = empty(m, mode);
+    let d = empty(c.settings);
     After {
         comp: d,
         answer: Answer::Done(0),
@@ -66,8 +69,12 @@ pub fn set_method(c: Composition, method: InputMethod) -> After
     if !cells::sound(c) {
         return refuse(c, Refusal::Unsound);
     }
-    let mode = c.mode;
-    let d = empty(method, mode);
+    let z = c.settings;
+    let mode = z.mode;
+    let d = empty(Settings {
+        method: method,
+        mode: mode,
+    });
     After {
         comp: d,
         answer: Answer::Done(0),
@@ -75,30 +82,31 @@ pub fn set_method(c: Composition, method: InputMethod) -> After
 }
 
 // Vietnamese where enabled, else English.
-pub fn set_enabled(c: Composition, enabled: bool) -> After
+pub fn set_enabled(mut c: Composition, enabled: bool) -> After
     ensures { λ r. ⌜ r ≡ enabledSet c enabled ⌝ }
 {
     if !cells::sound(c) {
         return refuse(c, Refusal::Unsound);
     }
-    let m = c.method;
+    let z = c.settings;
+    let m = z.method;
     if !enabled {
-        let d = empty(m, Mode::English);
+        let d = empty(Settings {
+            method: m,
+            mode: Mode::English,
+        });
         return After {
             comp: d,
             answer: Answer::Done(0),
         };
     }
-    let cs = c.cells;
-    let n = c.count;
-    let d = Composition {
-        cells: cs,
+    let vietnamese = Settings {
         method: m,
         mode: Mode::Vietnamese,
-        count: n,
     };
+    c.settings = vietnamese;
     After {
-        comp: d,
+        comp: c,
         answer: Answer::Done(0),
     }
 }

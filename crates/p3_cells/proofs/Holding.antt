@@ -6,11 +6,14 @@ use mathlib.Core.List.{List, [], _∷_, _++_, append-assoc}
 use native.Mathlib.Omega.{arith}
 use lib.ListN.{length, getD, take, drop, set, length-append, length-drop, length-take, length-set, take-append-drop}
 use lib.ListN.{drop-of-length-le, List·getD-append}
-use lib.Seq.{length-take-le, take-append-seam, getD-take, getD-drop, getD-append-add, set-append-left, set-split, set-at, ext-getD}
+use lib.Seq.{length-take-le, take-append-seam, getD-take, getD-drop, getD-append-add, ext-getD}
+use lib.Seq.{set-append-left, set-getD, set-set, set-split, set-at}
 use Rattle.p0_choice.specs.Choice.{each}
-use Rattle.p3_cells.specs.Cells.{limit, blank, blanks, isCell, isSound, used, holding}
+use Rattle.p3_cells.specs.Cells.{limit, blank, blanks, isCell, isSound, used, composed, holding}
+use Rattle.p3_cells.specs.Mirror.{cellOf, withCell, withCount, withSettings}
 use Rattle.p3_cells.specs.declared.Cell.{Cell}
 use Rattle.p3_cells.specs.declared.Composition.{Composition}
+use Rattle.p3_cells.specs.declared.Settings.{Settings}
 use Rattle.p0_choice.proofs.Tests.{each-at, at-each}
 use Rattle.p3_cells.proofs.Soundness.{sound-is, is-sound, cell-is, is-cell, sound-length}
 
@@ -38,7 +41,7 @@ pub used-few : (c : Composition) → length (used c) ≤ c .count
 unfolding used
 used-few c = omega (arith, length-take (c .count) (c .cells))
 
-pub used-at : (c : Composition) (i : ℕ) → i < c .count → getD (used c) i blank ≡ getD (c .cells) i blank
+pub used-at : (c : Composition) (i : ℕ) → i < c .count → getD (used c) i blank ≡ cellOf c i
 unfolding used
 used-at c i h = getD-take (c .count) (c .cells) i blank h
 
@@ -46,8 +49,8 @@ module _ (c : Composition) (s : isSound c ≡ true) where
   pub count-fits : c .count ≤ limit
   count-fits = sound-is c s .few
 
-  pub cell-fits : (i : ℕ) → i < c .count → isCell (getD (c .cells) i blank) ≡ true
-  cell-fits i h = is-cell (getD (c .cells) i blank) (sound-is c s .inUse i h)
+  pub cell-fits : (i : ℕ) → i < c .count → isCell (cellOf c i) ≡ true
+  cell-fits i h = is-cell (cellOf c i) (sound-is c s .inUse i h)
 
   pub used-length : length (used c) ≡ c .count
   used-length = used-count c (omega (arith, count-fits, sound-length c s))
@@ -67,46 +70,34 @@ module _ (c : Composition) (s : isSound c ≡ true) where
   pub used-cells : each isCell (used c) ≡ true
   used-cells = let u = used-length in at-each isCell blank (used c) (λ i h. rw (used-at c i (omega arith)) (cell-fits i (omega arith)))
 
--- ---- what a composition holds
--- d is c but for its cells, which are xs and blank ones
-pub made : (c : Composition) (xs cells : List Cell) (k : ℕ) → cells ≡ xs ++ blanks (limit - k) → length xs ≡ k
-    → record { cells = cells; method = c .method; mode = c .mode; count = k } ≡ holding c xs
-unfolding holding
-made c xs cells k e l = rw (e, ← l) refl
+-- ---- a composition of settings and cells
+-- cells that are xs and blank ones
+pub made : (z : Settings) (xs cells : List Cell) (k : ℕ) → cells ≡ xs ++ blanks (limit - k) → length xs ≡ k
+    → record { cells = cells; settings = z; count = k } ≡ composed z xs
+unfolding composed
+made z xs cells k e l = rw (e, ← l) refl
 
-pub holding-again : (c : Composition) (xs ys : List Cell) → holding (holding c xs) ys ≡ holding c ys
-unfolding holding
-holding-again c xs ys = refl
+pub settings-held : (z : Settings) (xs : List Cell) → composed z xs .settings ≡ z
+unfolding composed
+settings-held z xs = refl
 
-pub method-held : (c : Composition) (xs : List Cell) → holding c xs .method ≡ c .method
-unfolding holding
-method-held c xs = refl
+pub count-held : (z : Settings) (xs : List Cell) → composed z xs .count ≡ length xs
+unfolding composed
+count-held z xs = refl
 
-pub mode-held : (c : Composition) (xs : List Cell) → holding c xs .mode ≡ c .mode
-unfolding holding
-mode-held c xs = refl
+pub used-held : (z : Settings) (xs : List Cell) → used (composed z xs) ≡ xs
+unfolding used composed
+used-held z xs = take-append-seam xs (blanks (limit - length xs))
 
-pub count-held : (c : Composition) (xs : List Cell) → holding c xs .count ≡ length xs
-unfolding holding
-count-held c xs = refl
+pub length-held : (z : Settings) (xs : List Cell) → length xs ≤ limit → length (composed z xs .cells) ≡ limit
+unfolding composed
+length-held z xs h = rw (length-append, length-blanks) (omega arith)
 
-pub cells-held : (c : Composition) (xs : List Cell) → holding c xs .cells ≡ xs ++ blanks (limit - length xs)
-unfolding holding
-cells-held c xs = refl
-
-pub used-holding : (c : Composition) (xs : List Cell) → used (holding c xs) ≡ xs
-unfolding used holding
-used-holding c xs = take-append-seam xs (blanks (limit - length xs))
-
-pub length-holding : (c : Composition) (xs : List Cell) → length xs ≤ limit → length (holding c xs .cells) ≡ limit
-unfolding holding
-length-holding c xs h = rw (length-append, length-blanks) (omega arith)
-
-pub holding-sound : (c : Composition) (xs : List Cell) → length xs ≤ limit → each isCell xs ≡ true → isSound (holding c xs) ≡ true
-unfolding holding
-holding-sound c xs h e =
-    is-sound (holding c xs) (record {
-      whole = length-holding c xs h;
+pub composed-sound : (z : Settings) (xs : List Cell) → length xs ≤ limit → each isCell xs ≡ true → isSound (composed z xs) ≡ true
+unfolding composed
+composed-sound z xs h e =
+    is-sound (composed z xs) (record {
+      whole = length-held z xs h;
       few = h;
       inUse = λ i l. rw (List·getD-append xs (blanks (limit - length xs)) blank i l)
           (cell-is (getD xs i blank) (each-at isCell blank xs e i l));
@@ -114,36 +105,61 @@ holding-sound c xs h e =
           rw (d, getD-append-add) (blanks-at (limit - length xs) (i - length xs));
     })
 
+-- ---- a cell of it, another one instead, and one more
+pub cell-back : (c : Composition) (i : ℕ) → withCell c i (cellOf c i) ≡ c
+cell-back c i = rw (set-getD (c .cells) i blank) refl
+
+pub cell-again : (c : Composition) (i : ℕ) (x y : Cell) → withCell (withCell c i y) i x ≡ withCell c i x
+cell-again c i x y = rw (set-set (c .cells) i y x) refl
+
+module _ (z : Settings) (xs : List Cell) where
+  pub count-again : (n : ℕ) → length xs ≡ n → withCount (composed z xs) n ≡ composed z xs
+  unfolding composed
+  count-again n e = rw (← e) refl
+
+  pub cell-held : (i : ℕ) → i < length xs → cellOf (composed z xs) i ≡ getD xs i blank
+  unfolding composed
+  cell-held i h = List·getD-append xs (blanks (limit - length xs)) blank i h
+
+  pub composed-set : (i : ℕ) (x : Cell) → i < length xs → withCell (composed z xs) i x ≡ composed z (set xs i x)
+  unfolding composed
+  composed-set i x h =
+      made z (set xs i x) (set (xs ++ blanks (limit - length xs)) i x) (length xs)
+      (set-append-left xs (blanks (limit - length xs)) i x h) (length-set xs i x)
+
+  pub composed-append : (n : ℕ) (x : Cell) → length xs ≡ n → n < limit
+      → withCount (withCell (composed z xs) n x) (n + 1) ≡ composed z (xs ++ (x ∷ []))
+  unfolding composed
+  composed-append n x e h =
+      let d : limit - length xs ≡ suc (limit - (n + 1)) = omega arith in
+      made z (xs ++ (x ∷ [])) (set (xs ++ blanks (limit - length xs)) n x) (n + 1)
+      (ap (λ (m : ℕ). set (xs ++ blanks m) n x) d ∙ set-at xs blank (blanks (limit - (n + 1))) x n e
+      ∙ sym (append-assoc xs (x ∷ []) (blanks (limit - (n + 1)))))
+      (rw length-append (omega arith))
+
 module _ (c : Composition) (s : isSound c ≡ true) where
+  -- the same cells, under other settings
+  pub holding-under : (z : Settings) → withSettings c z ≡ composed z (used c)
+  holding-under z = made z (used c) (c .cells) (c .count) (parted c s) (used-length c s)
+
   pub holding-used : c ≡ holding c (used c)
-  holding-used = made c (used c) (c .cells) (c .count) (parted c s) (used-length c s)
+  holding-used = holding-under (c .settings)
 
   -- another cell at a place in use
-  pub holding-set : (i : ℕ) (x : Cell) → i < c .count
-      → record { cells = set (c .cells) i x; method = c .method; mode = c .mode; count = c .count } ≡ holding c (set (used c) i x)
+  pub holding-set : (i : ℕ) (x : Cell) → i < c .count → withCell c i x ≡ holding c (set (used c) i x)
   holding-set i x h =
-      let u = used-length c s in
-      made c (set (used c) i x) (set (c .cells) i x) (c .count)
-      (ap (λ (l : List Cell). set l i x) (parted c s) ∙ set-append-left (used c) (blanks (limit - c .count)) i x (omega arith))
-      (length-set (used c) i x ∙ u)
+      ap (λ (d : Composition). withCell d i x) holding-used ∙ composed-set (c .settings) (used c) i x (rw (used-length c s) h)
 
   -- one more cell
   pub holding-append : (x : Cell) → c .count < limit
-      → record { cells = set (c .cells) (c .count) x; method = c .method; mode = c .mode; count = c .count + 1 } ≡ holding c
-      (used c ++ (x ∷ []))
+      → withCount (withCell c (c .count) x) (c .count + 1) ≡ holding c (used c ++ (x ∷ []))
   holding-append x h =
-      let u = used-length c s in
-      let d : limit - c .count ≡ suc (limit - (c .count + 1)) = omega arith in
-      made c (used c ++ (x ∷ [])) (set (c .cells) (c .count) x) (c .count + 1)
-      (ap (λ (l : List Cell). set l (c .count) x) (parted c s ∙ ap (λ (m : ℕ). used c ++ blanks m) d)
-      ∙ set-at (used c) blank (blanks (limit - (c .count + 1))) x (c .count) u
-      ∙ sym (append-assoc (used c) (x ∷ []) (blanks (limit - (c .count + 1)))))
-      (rw length-append (omega arith))
+      ap (λ (d : Composition). withCount (withCell d (c .count) x) (c .count + 1)) holding-used
+      ∙ composed-append (c .settings) (used c) (c .count) x (used-length c s) h
 
   -- one cell less, "Removing the last cell blanks it."
   pub holding-less : 0 < c .count
-      → record { cells = set (c .cells) (c .count - 1) blank; method = c .method; mode = c .mode; count = c .count - 1 } ≡ holding c
-      (take (c .count - 1) (used c))
+      → withCount (withCell c (c .count - 1) blank) (c .count - 1) ≡ holding c (take (c .count - 1) (used c))
   holding-less h =
       let u = used-length c s in
       let f = count-fits c s in
@@ -151,7 +167,7 @@ module _ (c : Composition) (s : isSound c ≡ true) where
       let d : limit - (c .count - 1) ≡ suc (limit - c .count) = omega arith in
       let m : length (used c) ≤ suc (c .count - 1) = omega arith in
       let z : drop (suc (c .count - 1)) (used c) ≡ [] = drop-of-length-le (used c) m in
-      made c (take (c .count - 1) (used c)) (set (c .cells) (c .count - 1) blank) (c .count - 1)
+      made (c .settings) (take (c .count - 1) (used c)) (set (c .cells) (c .count - 1) blank) (c .count - 1)
       (ap (λ (l : List Cell). set l (c .count - 1) blank) (parted c s)
       ∙ set-append-left (used c) (blanks (limit - c .count)) (c .count - 1) blank l
       ∙ ap (λ (l : List Cell). l ++ blanks (limit - c .count))

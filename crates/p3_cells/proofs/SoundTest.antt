@@ -1,5 +1,5 @@
 -- The soundness test as the code goes through it: a cell in use by its mark, its tone and its base; the cells past the
--- count by the sum of their weights.
+-- count by their sum as numbers.
 use Prim.Native.Nat.{ℕ, zero, suc, _+_, _-_, _*_, _<_, _≤_}
 use mathlib.Core.Path.{_≡_, refl, sym, ap, _∙_}
 use mathlib.Core.Bool.{Bool, true, false, not}
@@ -81,7 +81,7 @@ module _ (x : Cell) (v : Bool) (m : x .mark ≡ 0 → ⊥) (b : x .mark ≡ x .b
       let l : inAlphabet (x .base) ≡ true = ap inAlphabet (sym b) ∙ mark-letter (x .mark) (sym e ∙ not-false v q) in
       rw (ne-eqb (x .mark) 0 m, eq-eqb (x .mark) (x .base) b, ← e, not-false v q, l) f
 
--- ---- a cell's weight is 0 where it is blank
+-- ---- a cell's number is 0 where it is blank
 abbrev light : Cell → ℕ
 light x = x .base + x .mark * 4294967296 + x .tone * 281474976710656
 

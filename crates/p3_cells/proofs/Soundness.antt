@@ -80,11 +80,6 @@ pub fits-past : (cells : List Cell) (n i : ℕ) → n ≤ i → fitsAt cells n i
 unfolding fitsAt
 fits-past cells n i l = rw (le-ltb i n l) refl
 
--- soundness asks of the cells and their count alone
-pub sound-cells : (c d : Composition) → d .cells ≡ c .cells → d .count ≡ c .count → isSound c ≡ true → isSound d ≡ true
-unfolding isSound
-sound-cells c d e f s = rw (e, f) s
-
 -- the test holds of a composition exactly where it is sound
 pub sound-is : (c : Composition) → isSound c ≡ true → Sound c
 unfolding isSound

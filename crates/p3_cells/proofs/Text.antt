@@ -12,6 +12,7 @@ use Rattle.p1_letters.specs.Alphabet.{isCapital, asciiUpper}
 use Rattle.p1_letters.specs.Tones.{toneOn}
 use Rattle.p1_letters.proofs.ToneOn.{no-tone}
 use Rattle.p3_cells.specs.Cells.{limit, blank, used}
+use Rattle.p3_cells.specs.Mirror.{packedCell, cellOf, firstCells}
 use Rattle.p3_cells.specs.Text.{letterOf, tonedLetter, shown, textOf}
 use Rattle.p3_cells.specs.declared.Cell.{Cell}
 use Rattle.p3_cells.specs.declared.Composition.{Composition}
@@ -32,6 +33,19 @@ pub toned-some : (x : Cell) (l r : ℕ) → l ≡ letterOf x → r ≡ toneOn l 
 unfolding tonedLetter
 toned-some x l r e q = rw (← e) q
 
+-- ---- a cell as one number below 2^48
+flag-off : (x : Cell) → packedCell x < 281474976710656 → x .upper ≡ false
+unfolding packedCell
+flag-off x h = go (x .upper) refl
+  where
+    go : (u : Bool) → x .upper ≡ u → u ≡ false
+    go true p = absurd (let k = rw p at h in omega arith)
+    go false p = refl
+
+tone-off : (x : Cell) → packedCell x < 281474976710656 → x .tone ≡ 0
+unfolding packedCell
+tone-off x h = omega arith
+
 module _ (x : Cell) (t : ℕ) (e : t ≡ tonedLetter x) where
   pub shown-small : not (x .upper) ≡ true → t ≡ shown x
   unfolding shown
@@ -45,9 +59,16 @@ module _ (x : Cell) (t : ℕ) (e : t ≡ tonedLetter x) where
   unfolding shown
   shown-tried v r h p q f = rw (← e, ← p, q) (pick-true (x .upper) r (asciiUpper t) t (not-false (x .upper) h) f)
 
+-- neither a tone nor a flag
+pub shown-bare : (x : Cell) (l : ℕ) → x .tone ≡ 0 → x .upper ≡ false → l ≡ letterOf x → l ≡ shown x
+shown-bare x l t u q = shown-small x l (toned-none x l q t) (ap not u)
+
+pub shown-plain : (x : Cell) (w l : ℕ) → w ≡ packedCell x → w < 281474976710656 → l ≡ letterOf x → l ≡ shown x
+shown-plain x w l e h q = let k = rw e at h in shown-bare x l (tone-off x k) (flag-off x k) q
+
 -- ---- the first i letters are written
 unfoldable pub writtenTo : Composition → ℕ → List ℕ → List ℕ
-writtenTo c i o = textOf (take i (c .cells)) ++ drop i o
+writtenTo c i o = textOf (firstCells c i) ++ drop i o
 
 pub written-none : (c : Composition) (o : List ℕ) → o ≡ writtenTo c 0 o
 unfolding writtenTo textOf
@@ -60,7 +81,7 @@ more (x ∷ xs) [] i h l = absurd (omega arith)
 more (x ∷ xs) (y ∷ o) zero h l = refl
 more (x ∷ xs) (y ∷ o) (suc i) h l = ap (λ (t : List ℕ). shown x ∷ t) (more xs o i (omega arith) (omega arith))
 
-pub written-more : (c : Composition) (o out : List ℕ) (i v : ℕ) → out ≡ writtenTo c i o → v ≡ shown (getD (c .cells) i blank)
+pub written-more : (c : Composition) (o out : List ℕ) (i v : ℕ) → out ≡ writtenTo c i o → v ≡ shown (cellOf c i)
     → length (c .cells) ≡ limit
     → i < c .count → c .count ≤ limit → c .count ≤ length o → set out i v ≡ writtenTo c (i + 1) o
 unfolding writtenTo textOf

@@ -9,6 +9,7 @@ use Rattle.p0_choice.specs.Text.{word}
 use Rattle.p1_letters.specs.Alphabet.{inAlphabet, isCapital}
 use Rattle.p3_cells.specs.declared.Cell.{Cell}
 use Rattle.p3_cells.specs.declared.Composition.{Composition}
+use Rattle.p3_cells.specs.declared.Settings.{Settings}
 
 -- "A composition holds at most 32 cells"
 abbrev pub limit : ℕ
@@ -53,7 +54,7 @@ isSound c =
 unfoldable pub typed : ℕ → Cell
 typed ch = record { base = ch; mark = 0; tone = 0; upper = isCapital ch }
 
--- ---- the cells in use, and a composition that holds others instead
+-- ---- the cells in use; a composition of settings and cells, "every cell past the count blank"; one that holds others instead
 unfoldable pub used : Composition → List Cell
 used c = take (c .count) (c .cells)
 
@@ -61,6 +62,8 @@ abbrev pub blanks : ℕ → List Cell
 blanks zero = []
 blanks (suc n) = blank ∷ blanks n
 
-unfoldable pub holding : Composition → List Cell → Composition
-holding c xs =
-    record { cells = xs ++ blanks (limit - length xs); method = c .method; mode = c .mode; count = length xs }
+unfoldable pub composed : Settings → List Cell → Composition
+composed s xs = record { cells = xs ++ blanks (limit - length xs); settings = s; count = length xs }
+
+abbrev pub holding : Composition → List Cell → Composition
+holding c xs = composed (c .settings) xs

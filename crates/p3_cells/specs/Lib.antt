@@ -1,4 +1,5 @@
 pub mod Cells
+pub mod Settings
 pub mod Soundness
 pub mod Text
 pub mod Leaving

@@ -1,5 +1,5 @@
-// A composition: at most LIMIT cells, a method and a mode, by value (bamboo.rs), its soundness and its text. The count
-// comes last, so that the cells can be copied as one block.
+// A composition: at most LIMIT cells and the settings, by value (bamboo.rs), its soundness and its text. The count comes
+// last, so that the cells can be copied as one block.
 ghost use mathlib.Core.Path.{_≡_};
 ghost use mathlib.Core.List.{_++_};
 ghost use Prim.Native.Nat.{_<_, _≤_, _^_};
@@ -30,10 +30,15 @@ pub struct Cell {
     pub upper: bool,
 }
 
-pub struct Composition {
-    pub cells: [Cell; LIMIT],
+// What a composition is set to, whatever it holds.
+pub struct Settings {
     pub method: InputMethod,
     pub mode: Mode,
+}
+
+pub struct Composition {
+    pub cells: [Cell; LIMIT],
+    pub settings: Settings,
     pub count: usize,
 }
 
@@ -134,7 +139,7 @@ pub fn packed(x: Cell) -> u64
     w
 }
 
-// The cells past the count are blank where their weights have the sum 0: with no way out of the loop, it is done by vectors.
+// The cells past the count are blank where, as numbers, their sum is 0: with no way out of the loop, it is done by vectors.
 pub fn sound(c: Composition) -> bool
     ensures { λ r. ⌜ r ≡ isSound c ⌝ }
 {
@@ -182,9 +187,13 @@ fn toned_letter(x: Cell) -> u32
     letters::apply_tone_to_char(l, x.tone as u32)
 }
 
+// Most cells have neither a tone nor a flag, which one comparison tells.
 pub fn shown(x: Cell) -> u32
     ensures { λ r. ⌜ r ≡ shownOf x ⌝ }
 {
+    if packed(x) < 281474976710656 {
+        return letter_of(x);
+    }
     let t = toned_letter(x);
     if !x.upper {
         return t;

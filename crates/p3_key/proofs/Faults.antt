@@ -5,11 +5,11 @@ use mathlib.Core.Bool.{Bool, true, false}
 use mathlib.Core.Logic.{inl}
 use native.Mathlib.Omega.{arith}
 use lib.Dec.{eqb, ltb}
-use lib.ListN.{length, getD}
 use borrow.Author.Tests.{lt-ltb, ltb-true, ltb-false}
 use Rattle.p0_choice.specs.Choice.{pick}
 use Rattle.p1_letters.specs.Alphabet.{inAlphabet}
-use Rattle.p3_cells.specs.Cells.{limit, blank, isBlank, isCell, fitsAt, isSound}
+use Rattle.p3_cells.specs.Cells.{limit, isBlank, isCell, fitsAt, isSound}
+use Rattle.p3_cells.specs.Mirror.{cellOf, places}
 use Rattle.p3_cells.specs.declared.Cell.{Cell}
 use Rattle.p3_cells.specs.declared.Composition.{Composition}
 use Rattle.p3_cells.proofs.Soundness.{fits-used, fits-past, is-cell}
@@ -43,11 +43,11 @@ unfolding faultsBy
 faults-none c = refl
 
 module _ (c : Composition) (t i w u : ℕ) (e : fitsFrom c 0 ≡ faultsBy c t i) where
-  pub faults-used : u ≡ min (c .count) limit → i < u → eqb w 0 ≡ isCell (getD (c .cells) i blank)
+  pub faults-used : u ≡ min (c .count) limit → i < u → eqb w 0 ≡ isCell (cellOf c i)
       → fitsFrom c 0 ≡ faultsBy c (t + w) (i + 1)
   faults-used h l q = e ∙ more c t i w (omega arith) (q ∙ sym (fits-used (c .cells) (c .count) i (omega arith)))
 
-  pub faults-past : u ≡ min (c .count) limit → u ≤ i → i < limit → eqb w 0 ≡ isBlank (getD (c .cells) i blank)
+  pub faults-past : u ≡ min (c .count) limit → u ≤ i → i < limit → eqb w 0 ≡ isBlank (cellOf c i)
       → fitsFrom c 0 ≡ faultsBy c (t + w) (i + 1)
   faults-past h l m q = e ∙ more c t i w m (q ∙ sym (fits-past (c .cells) (c .count) i (omega arith)))
 
@@ -59,7 +59,7 @@ all-fit c t i e l = let d : limit - i ≡ 0 = omega arith in sym (rw d at e ∙ 
     same true = refl
     same false = refl
 
-tested : (c : Composition) (t i : ℕ) → length (c .cells) ≡ limit → fitsFrom c 0 ≡ faultsBy c t i → limit ≤ i
+tested : (c : Composition) (t i : ℕ) → places c ≡ limit → fitsFrom c 0 ≡ faultsBy c t i → limit ≤ i
     → pick (ltb limit (c .count)) false (eqb t 0) ≡ isSound c
 tested c t i n e l = go (ltb limit (c .count)) refl
   where
@@ -67,7 +67,7 @@ tested c t i n e l = go (ltb limit (c .count)) refl
     go true q = sound-long c (ltb-true limit (c .count) q)
     go false q = all-fit c t i e l ∙ sym (sound-start c n (ltb-false limit (c .count) q))
 
-pub faults-sound : (c : Composition) (t i : ℕ) (trusted s : Bool) → length (c .cells) ≡ limit → fitsFrom c 0 ≡ faultsBy c t i → limit ≤ i
+pub faults-sound : (c : Composition) (t i : ℕ) (trusted s : Bool) → places c ≡ limit → fitsFrom c 0 ≡ faultsBy c t i → limit ≤ i
     → (trusted ≡ true → isSound c ≡ true) → s ≡ soundBy trusted (c .count) t → s ≡ isSound c
 unfolding soundBy
 faults-sound c t i true s n e l h q = q ∙ sym (h refl)

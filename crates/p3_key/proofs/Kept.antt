@@ -15,7 +15,7 @@ use Rattle.p3_cells.specs.Cells.{limit, isCell, isSound, used, holding}
 use Rattle.p3_cells.specs.declared.Composition.{Composition}
 use Rattle.p3_cells.specs.declared.Mode.{Mode}
 use Rattle.p3_cells.specs.declared.Mode.the-variants.{Vietnamese, English}
-use Rattle.p3_cells.proofs.Holding.{used-cells, holding-sound}
+use Rattle.p3_cells.proofs.Holding.{used-cells, composed-sound}
 use Rattle.p3_cells.proofs.Leaving.{leaving-keeps}
 use Rattle.p3_step.proofs.Sound.{key-cells-kept}
 use Rattle.p3_key.specs.Process.{inMode, nextCells, writtenFor, isFull, keyOutcome, keyNext, keyed}
@@ -39,24 +39,24 @@ taken c key n k e = go (isSound c) (inAlphabet key) (isFull c key) refl refl e
 
 module _ (c : Composition) (key n : ℕ) (s : isSound c ≡ true) where
   -- in Vietnamese mode: the cells after the key are few enough, and fit
-  few : c .mode ≡ Vietnamese → isFull c key ≡ false → length (nextCells c key) ≤ limit
+  few : c .settings .mode ≡ Vietnamese → isFull c key ≡ false → length (nextCells c key) ≤ limit
   unfolding isFull
-  few m f = ltb-false limit (length (nextCells c key)) (sym (by (c .mode) m) ∙ f)
+  few m f = ltb-false limit (length (nextCells c key)) (sym (by (c .settings .mode) m) ∙ f)
     where
       by : (o : Mode) → o ≡ Vietnamese → inMode o (ltb limit (length (nextCells c key))) false ≡ ltb limit (length (nextCells c key))
       by o e = rw e refl
 
   fit : inAlphabet key ≡ true → each isCell (nextCells c key) ≡ true
   unfolding nextCells
-  fit a = key-cells-kept (c .method) (used c) (used-cells c s) key a
+  fit a = key-cells-kept (c .settings) (used c) (used-cells c s) key a
 
   pub key-sound : isSound (keyed c key n .comp) ≡ true
   unfolding keyed keyNext
   key-sound =
       leaving-keeps (λ (d : Composition). isSound d ≡ true) (answer (keyOutcome c key) n) c _ s
-      (λ k e. go (c .mode) refl (taken c key n k e))
+      (λ k e. go (c .settings .mode) refl (taken c key n k e))
     where
       -- either the composition stays, or it holds the cells after the key
-      go : (o : Mode) → c .mode ≡ o → Taken c key → isSound (inMode o (holding c (nextCells c key)) c) ≡ true
+      go : (o : Mode) → c .settings .mode ≡ o → Taken c key → isSound (inMode o (holding c (nextCells c key)) c) ≡ true
       go English m t = s
-      go Vietnamese m t = holding-sound c (nextCells c key) (few m (t .room)) (fit (t .letter))
+      go Vietnamese m t = composed-sound (c .settings) (nextCells c key) (few m (t .room)) (fit (t .letter))

@@ -7,7 +7,9 @@ use native.Mathlib.Numerals.{add-one}
 use lib.ListN.{length, getD, take, drop, set}
 use Rattle.p3_cells.specs.Cells.{blank}
 use Rattle.p3_cells.specs.Text.{shown}
+use Rattle.p3_cells.specs.Mirror.{cellOf, firstCells, places}
 use Rattle.p3_cells.specs.declared.Cell.{Cell}
+use Rattle.p3_cells.specs.declared.Composition.{Composition}
 use Rattle.p3_cells.specs.declared.Mode.{Mode}
 use Rattle.p3_cells.specs.declared.Mode.the-variants.{Vietnamese, English}
 use Rattle.p3_key.specs.Mirror.{letterFor}
@@ -21,12 +23,12 @@ unfolding letterFor
 letter-key m key z e = rw e refl
 
 -- the first j letters are written
-unfoldable pub lettersTo : Mode → ℕ → List Cell → ℕ → List ℕ → List ℕ
-lettersTo m key cells j o = map (letterFor m key) (take j cells) ++ drop j o
+unfoldable pub lettersTo : Mode → ℕ → Composition → ℕ → List ℕ → List ℕ
+lettersTo m key c j o = map (letterFor m key) (firstCells c j) ++ drop j o
 
-pub no-letters-yet : (m : Mode) (key : ℕ) (cells : List Cell) (o : List ℕ) → o ≡ lettersTo m key cells 0 o
+pub no-letters-yet : (m : Mode) (key : ℕ) (c : Composition) (o : List ℕ) → o ≡ lettersTo m key c 0 o
 unfolding lettersTo
-no-letters-yet m key cells o = refl
+no-letters-yet m key c o = refl
 
 more : (f : Cell → ℕ) (xs : List Cell) (o : List ℕ) (j : ℕ) → j < length xs → j < length o
     → set (map f (take j xs) ++ drop j o) j (f (getD xs j blank)) ≡ map f (take (suc j) xs) ++ drop (suc j) o
@@ -35,7 +37,7 @@ more f (x ∷ xs) [] j h l = absurd (omega arith)
 more f (x ∷ xs) (y ∷ o) zero h l = refl
 more f (x ∷ xs) (y ∷ o) (suc j) h l = ap (λ (t : List ℕ). f x ∷ t) (more f xs o j (omega arith) (omega arith))
 
-pub letters-more : (m : Mode) (key : ℕ) (cells : List Cell) (o out : List ℕ) (j v : ℕ) → out ≡ lettersTo m key cells j o
-    → v ≡ letterFor m key (getD cells j blank) → j < length cells → j < length o → set out j v ≡ lettersTo m key cells (j + 1) o
+pub letters-more : (m : Mode) (key : ℕ) (c : Composition) (o out : List ℕ) (j v : ℕ) → out ≡ lettersTo m key c j o
+    → v ≡ letterFor m key (cellOf c j) → j < places c → j < length o → set out j v ≡ lettersTo m key c (j + 1) o
 unfolding lettersTo
-letters-more m key cells o out j v e q h l = rw (e, q, add-one j) (more (letterFor m key) cells o j h l)
+letters-more m key c o out j v e q h l = rw (e, q, add-one j) (more (letterFor m key) (c .cells) o j h l)

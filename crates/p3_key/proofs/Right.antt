@@ -1,19 +1,18 @@
 -- What the owner does is document 01's key call: the answer, the composition and the output that a stroke leaves are those
 -- of the definitions.
-use Prim.Native.Nat.{ℕ, zero, suc, _-_, _<_, _≤_}
+use Prim.Native.Nat.{ℕ, _<_, _≤_}
 use mathlib.Core.Path.{_≡_, refl, sym, ap, _∙_}
 use mathlib.Core.Bool.{Bool, true, false}
-use mathlib.Core.List.{List, [], _∷_, _++_, map}
+use mathlib.Core.List.{List, [], _∷_, map}
 use native.Mathlib.Omega.{arith}
 use lib.Dec.{ltb}
-use lib.ListN.{length, getD, take, drop, set, length-map}
-use lib.Seq.{set-getD, take-append-seam}
+use lib.ListN.{length, take, length-map}
 use borrow.Author.Tests.{ltb-true, ltb-false}
 use Rattle.p0_choice.specs.Choice.{pick}
 use Rattle.p0_refusals.specs.declared.Refusal.{Refusal}
 use Rattle.p0_refusals.specs.declared.Refusal.the-variants.{Foreign, Full, Short, Unsound}
 use Rattle.p1_letters.specs.Alphabet.{inAlphabet, asciiLower}
-use Rattle.p3_cells.specs.Cells.{limit, blank, blanks, isSound, used, holding}
+use Rattle.p3_cells.specs.Cells.{limit, isSound, used, composed, holding}
 use Rattle.p3_cells.specs.Text.{shown, textOf}
 use Rattle.p0_refusals.specs.Answers.{writes, refuses, answer, onto, output}
 use Rattle.p0_refusals.proofs.Answers.{refuses-answer, short-answer, writes-answer, writes-output}
@@ -21,41 +20,31 @@ use Rattle.p3_cells.specs.Leaving.{leaving}
 use Rattle.p3_cells.specs.declared.Cell.{Cell}
 use Rattle.p3_cells.specs.declared.Composition.{Composition}
 use Rattle.p3_cells.specs.declared.Mode.{Mode}
+use Rattle.p3_cells.specs.declared.Settings.{Settings}
 use Rattle.p3_cells.specs.declared.Mode.the-variants.{Vietnamese, English}
 use Rattle.p0_refusals.specs.declared.Answer.the-variants.{Done, Refused}
-use Rattle.p3_cells.proofs.Holding.{length-blanks, count-fits, used-length, used-cells, made, cells-held, holding-used}
+use Rattle.p3_cells.proofs.Holding.{used-cells, used-held, holding-used}
 use Rattle.p3_cells.proofs.Soundness.{sound-length}
 use Rattle.p3_cells.specs.Row.{bases}
-use Rattle.p3_cells.specs.Mirror.{rowCells}
+use Rattle.p3_cells.specs.Mirror.{firstCells, rowCells, places}
 use Rattle.p3_step.specs.Key.{keyCells}
-use Rattle.p3_step.specs.Mirror.{stepOf, putCell, alsoCell}
-use Rattle.p3_step.specs.declared.Change.the-variants.{Nothing}
+use Rattle.p3_step.specs.Mirror.{stepOf}
 use Rattle.p3_step.specs.declared.Step.{Step}
-use Rattle.p3_step.proofs.Makes.{stored, Makes, step-makes}
+use Rattle.p3_step.proofs.Makes.{stepped, still-same, Makes, step-makes}
 use Rattle.p3_step.proofs.Same.{step-same}
 use Rattle.p3_key.specs.Process.{inMode, nextCells, writtenFor, isFull, keyOutcome, keyNext, keyed}
-use Rattle.p3_key.specs.Mirror.{letterFor, noStroke, stepStroke, passStroke, strokeOf}
+use Rattle.p3_key.specs.Mirror.{letterFor, noStroke, wrote, wroteKey, stepStroke, passStroke, strokeOf}
 use Rattle.p3_key.specs.declared.Stroke.{Stroke}
 use Rattle.p3_key.proofs.Letters.{lettersTo}
 
 -- ---- what a stroke leaves
-abbrev pub putStroke : Stroke → List Cell → ℕ → Cell
-putStroke e cells key = putCell (e .change) (e .mark) (getD cells (e .at) blank) (getD cells (e .also) blank) key (asciiLower key)
-
-unfoldable pub stroked : Composition → Stroke → ℕ → Composition
-stroked c e key =
-    record {
-      cells = set (set (c .cells) (e .at) (putStroke e (c .cells) key)) (e .also)
-          (alsoCell (e .change) (putStroke e (c .cells) key));
-      method = c .method;
-      mode = c .mode;
-      count = e .count;
-    }
+abbrev pub stroked : Composition → Stroke → ℕ → Composition
+stroked c e key = stepped (e .step) c key (asciiLower key)
 
 pub record Right (c : Composition) (key : ℕ) (o : List ℕ) (e : Stroke) : Type 0 where
   pub comp : stroked c e key ≡ keyed c key (length o) .comp
   pub told : e .answer ≡ answer (keyOutcome c key) (length o)
-  pub out : lettersTo (c .mode) key (stroked c e key .cells) (e .letters) o ≡ output (keyOutcome c key) o
+  pub out : lettersTo (c .settings .mode) key (stroked c e key) (e .letters) o ≡ output (keyOutcome c key) o
 
 -- ---- what there is to write, way by way
 module _ (c : Composition) (key : ℕ) where
@@ -78,15 +67,12 @@ module _ (c : Composition) (key : ℕ) where
       outcome-writes f = rw (s, a, f) refl
 
 -- ---- nothing changes
-same-cells : (c : Composition) → set (set (c .cells) 0 (getD (c .cells) 0 blank)) 0 (getD (c .cells) 0 blank) ≡ c .cells
-same-cells c = rw (set-getD (c .cells) 0 blank) (set-getD (c .cells) 0 blank)
-
 kept-right : (c : Composition) (key : ℕ) (o : List ℕ) (r : Refusal) → Refused r ≡ answer (keyOutcome c key) (length o)
     → Right c key o (noStroke r (c .count))
-unfolding stroked putCell alsoCell lettersTo keyed leaving output
+unfolding lettersTo keyed leaving output
 kept-right c key o r e =
     record {
-      comp = rw (same-cells c, ← e) refl;
+      comp = rw (still-same c key (asciiLower key), ← e) refl;
       told = e;
       out = rw (← e) refl;
     }
@@ -118,56 +104,23 @@ unfolding letterFor
 one-letter key [] h = absurd (omega arith)
 one-letter key (x ∷ xs) h = refl
 
-pass-right : (c : Composition) (key : ℕ) (o : List ℕ) → 0 < length (c .cells) → c .mode ≡ English
+pass-right : (c : Composition) (key : ℕ) (o : List ℕ) → 0 < places c → c .settings .mode ≡ English
     → keyOutcome c key ≡ writes (writtenFor c key) → length (writtenFor c key) ≤ length o
-    → length (writtenFor c key) ≡ 1
-    → Right c key o (record { change = Nothing; at = 0; also = 0; mark = 0; count = c .count; letters = 1; answer = Done 1 })
-unfolding stroked putCell alsoCell lettersTo keyNext writtenFor
+    → length (writtenFor c key) ≡ 1 → Right c key o (wroteKey (c .count))
+unfolding lettersTo keyNext writtenFor
 pass-right c key o h m q l e =
+    let same = still-same c key (asciiLower key) in
     record {
-      comp = rw (comp-written c key o q l, same-cells c, m) refl;
+      comp = rw (comp-written c key o q l, same, m) refl;
       told = told-written c key o q l 1 (sym e);
-      out = rw (out-written c key o q l, same-cells c, m, one-letter key (c .cells) h) refl;
+      out = rw (out-written c key o q l, same, m, one-letter key (c .cells) h) refl;
     }
 
 -- ---- Vietnamese: the step's cells
-abbrev wrote : Step → Stroke
-wrote s =
-    record {
-      change = s .change;
-      at = s .at;
-      also = s .also;
-      mark = s .mark;
-      count = s .count;
-      letters = s .count;
-      answer = Done
-          (s .count);
-    }
-
-blanks-less : (n k : ℕ) → drop k (blanks n) ≡ blanks (n - k)
-blanks-less n zero = let d : n - 0 ≡ n = omega arith in rw d refl
-blanks-less zero (suc k) = let d : 0 - suc k ≡ 0 = omega arith in rw d refl
-blanks-less (suc n) (suc k) = let d : suc n - suc k ≡ n - k = omega arith in rw d (blanks-less n k)
-
-module _ (c : Composition) (s : isSound c ≡ true) where
-  parted : c .cells ≡ used c ++ blanks (limit - length (used c))
-  parted = ap (λ (d : Composition). d .cells) (holding-used c s) ∙ cells-held c (used c)
-
-  module _ (xs : List Cell) (key : ℕ) (t : Step) (h : Makes t (used c) xs key (asciiLower key)) (l : length xs ≤ limit) where
-    step-cells : stored t (c .cells) key (asciiLower key) ≡ xs ++ blanks (limit - length xs)
-    step-cells =
-        let u = used-length c s in
-        let f = count-fits c s in
-        let g = h .count in
-        let v = h .grows in
-        let b : length (blanks (limit - length (used c))) ≡ limit - length (used c) = length-blanks (limit - length (used c)) in
-        let d : limit - length (used c) - (t .count - length (used c)) ≡ limit - length xs = omega arith in
-        rw parted (h .cells (blanks (limit - length (used c))) (omega arith)
-        ∙ rw (blanks-less (limit - length (used c)) (t .count - length (used c)), d) refl)
-
-    held : stroked c (wrote t) key ≡ holding c xs
-    unfolding stroked stored
-    held = rw (h .count) (made c xs (stored t (c .cells) key (asciiLower key)) (length xs) step-cells refl)
+held : (c : Composition) → isSound c ≡ true → (xs : List Cell) (key : ℕ) (t : Step) → Makes t (used c) xs key (asciiLower key)
+    → length xs ≤ limit → stroked c (wrote t) key ≡ holding c xs
+held c s xs key t h l =
+    ap (λ (d : Composition). stepped t d key (asciiLower key)) (holding-used c s) ∙ h .cells (c .settings) l
 
 -- what the definitions say where the answer is a number of letters
 in-vietnamese : {A : Type 0} (m : Mode) (a b : A) → m ≡ Vietnamese → inMode m a b ≡ a
@@ -176,7 +129,7 @@ in-vietnamese m a b e = rw e refl
 in-english : {A : Type 0} (m : Mode) (a b : A) → m ≡ English → inMode m a b ≡ b
 in-english m a b e = rw e refl
 
-letters-vietnamese : (m : Mode) (key : ℕ) (xs : List Cell) → m ≡ Vietnamese → map (letterFor m key) xs ≡ textOf xs
+pub letters-vietnamese : (m : Mode) (key : ℕ) (xs : List Cell) → m ≡ Vietnamese → map (letterFor m key) xs ≡ textOf xs
 unfolding letterFor textOf
 letters-vietnamese m key xs e = rw e (go xs)
   where
@@ -184,14 +137,14 @@ letters-vietnamese m key xs e = rw e (go xs)
     go [] = refl
     go (x ∷ xs) = ap (λ (l : List ℕ). shown x ∷ l) (go xs)
 
-module _ (c : Composition) (key : ℕ) (m : c .mode ≡ Vietnamese) where
+module _ (c : Composition) (key : ℕ) (m : c .settings .mode ≡ Vietnamese) where
   written-vietnamese : writtenFor c key ≡ textOf (nextCells c key)
   unfolding writtenFor
-  written-vietnamese = in-vietnamese (c .mode) (textOf (nextCells c key)) (key ∷ []) m
+  written-vietnamese = in-vietnamese (c .settings .mode) (textOf (nextCells c key)) (key ∷ []) m
 
   full-vietnamese : isFull c key ≡ ltb limit (length (nextCells c key))
   unfolding isFull
-  full-vietnamese = in-vietnamese (c .mode) (ltb limit (length (nextCells c key))) false m
+  full-vietnamese = in-vietnamese (c .settings .mode) (ltb limit (length (nextCells c key))) false m
 
   written-length : length (writtenFor c key) ≡ length (nextCells c key)
   unfolding textOf
@@ -199,13 +152,14 @@ module _ (c : Composition) (key : ℕ) (m : c .mode ≡ Vietnamese) where
 
   next-vietnamese : keyNext c key ≡ holding c (nextCells c key)
   unfolding keyNext
-  next-vietnamese = in-vietnamese (c .mode) (holding c (nextCells c key)) c m
+  next-vietnamese = in-vietnamese (c .settings .mode) (holding c (nextCells c key)) c m
 
-front : (c : Composition) (xs : List Cell) → take (length xs) (holding c xs .cells) ≡ xs
-front c xs = rw (cells-held c xs) (take-append-seam xs (blanks (limit - length xs)))
+front : (z : Settings) (xs : List Cell) → firstCells (composed z xs) (length xs) ≡ xs
+unfolding used composed
+front z xs = used-held z xs
 
 step-right : (c : Composition) → isSound c ≡ true → (key : ℕ) (t : Step) → Makes t (used c) (nextCells c key) key (asciiLower key)
-    → length (nextCells c key) ≤ limit → (o : List ℕ) → c .mode ≡ Vietnamese → keyOutcome c key ≡ writes (writtenFor c key)
+    → length (nextCells c key) ≤ limit → (o : List ℕ) → c .settings .mode ≡ Vietnamese → keyOutcome c key ≡ writes (writtenFor c key)
     → length (writtenFor c key) ≤ length o → Right c key o (wrote t)
 unfolding lettersTo
 step-right c s key t h l o m q r =
@@ -214,28 +168,27 @@ step-right c s key t h l o m q r =
       comp = d ∙ sym (comp-written c key o q r ∙ next-vietnamese c key m);
       told = told-written c key o q r (t .count) (h .count ∙ sym (written-length c key m));
       out =
-          rw (d, h .count, front c (nextCells c key), letters-vietnamese (c .mode) key (nextCells c key) m)
+          rw (d, h .count, front (c .settings) (nextCells c key), letters-vietnamese (c .settings .mode) key (nextCells c key) m)
           (sym (out-written c key o q r ∙ rw (written-length c key m, written-vietnamese c key m) refl));
     }
 
 -- ---- the stroke of a sound composition and a letter of the alphabet
 module _ (c : Composition) (key : ℕ) (o : List ℕ) (s : isSound c ≡ true) (a : inAlphabet key ≡ true) where
-  module _ (m : c .mode ≡ English) where
+  module _ (m : c .settings .mode ≡ English) where
     full-english : isFull c key ≡ false
     unfolding isFull
-    full-english = in-english (c .mode) (ltb limit (length (nextCells c key))) false m
+    full-english = in-english (c .settings .mode) (ltb limit (length (nextCells c key))) false m
 
     written-english : length (writtenFor c key) ≡ 1
     unfolding writtenFor
-    written-english = rw (in-english (c .mode) (textOf (nextCells c key)) (key ∷ []) m) refl
+    written-english = rw (in-english (c .settings .mode) (textOf (nextCells c key)) (key ∷ []) m) refl
 
     english-right : Right c key o (passStroke (c .count) (length o))
     unfolding passStroke
     english-right = go (ltb (length o) 1) refl
       where
         go : (b : Bool) → ltb (length o) 1 ≡ b
-            → Right c key o (pick b (noStroke Short (c .count))
-            (record { change = Nothing; at = 0; also = 0; mark = 0; count = c .count; letters = 1; answer = Done 1 }))
+            → Right c key o (pick b (noStroke Short (c .count)) (wroteKey (c .count)))
         go true q =
             let l : length o < length (writtenFor c key) = rw written-english (ltb-true (length o) 1 q) in
             short-right c key o (outcome-writes c key s a full-english) l
@@ -243,7 +196,7 @@ module _ (c : Composition) (key : ℕ) (o : List ℕ) (s : isSound c ≡ true) (
             let l : length (writtenFor c key) ≤ length o = rw written-english (ltb-false (length o) 1 q) in
             pass-right c key o (rw (sound-length c s) (omega arith)) m (outcome-writes c key s a full-english) l written-english
 
-  module _ (m : c .mode ≡ Vietnamese) (t : Step) (h : Makes t (used c) (nextCells c key) key (asciiLower key)) where
+  module _ (m : c .settings .mode ≡ Vietnamese) (t : Step) (h : Makes t (used c) (nextCells c key) key (asciiLower key)) where
     vietnamese-right : Right c key o (stepStroke t (c .count) (length o))
     unfolding stepStroke
     vietnamese-right = go (ltb limit (t .count)) (ltb (length o) (t .count)) refl refl
@@ -261,22 +214,22 @@ module _ (c : Composition) (key : ℕ) (o : List ℕ) (s : isSound c ≡ true) (
 
 -- what the stroke leaves is right
 pub stroke-right : (c : Composition) (key : ℕ) (o : List ℕ)
-    → Right c key o (strokeOf (isSound c) (c .method) (c .mode) (rowCells (bases (used c))) key (c .count) (length o))
+    → Right c key o (strokeOf (isSound c) (c .settings) (rowCells (bases (used c))) key (c .count) (length o))
 unfolding strokeOf nextCells
-stroke-right c key o = go (isSound c) (inAlphabet key) (c .mode) refl refl refl
+stroke-right c key o = go (isSound c) (inAlphabet key) (c .settings .mode) refl refl refl
   where
     makes : isSound c ≡ true
-        → Makes (stepOf (c .method) (rowCells (bases (used c))) (asciiLower key)) (used c) (keyCells (c .method) (used c) key) key
+        → Makes (stepOf (c .settings) (rowCells (bases (used c))) (asciiLower key)) (used c) (keyCells (c .settings) (used c) key) key
         (asciiLower key)
-    makes s = rw (step-same (c .method) (used c) (asciiLower key) (used-cells c s)) (step-makes (c .method) (used c) key)
+    makes s = rw (step-same (c .settings) (used c) (asciiLower key) (used-cells c s)) (step-makes (c .settings) (used c) key)
 
-    go : (s a : Bool) (m : Mode) → isSound c ≡ s → inAlphabet key ≡ a → c .mode ≡ m
+    go : (s a : Bool) (m : Mode) → isSound c ≡ s → inAlphabet key ≡ a → c .settings .mode ≡ m
         → Right c key o (pick s (pick a
-        (inMode m (stepStroke (stepOf (c .method) (rowCells (bases (used c))) (asciiLower key)) (c .count) (length o))
+        (inMode m (stepStroke (stepOf (c .settings) (rowCells (bases (used c))) (asciiLower key)) (c .count) (length o))
         (passStroke (c .count) (length o))) (noStroke Foreign (c .count)))
         (noStroke Unsound (c .count)))
     go false a m e f g = refused-right c key o Unsound (outcome-unsound c key e)
     go true false m e f g = refused-right c key o Foreign (outcome-foreign c key e f)
     go true true English e f g = english-right c key o e f g
     go true true Vietnamese e f g =
-        vietnamese-right c key o e f g (stepOf (c .method) (rowCells (bases (used c))) (asciiLower key)) (makes e)
+        vietnamese-right c key o e f g (stepOf (c .settings) (rowCells (bases (used c))) (asciiLower key)) (makes e)

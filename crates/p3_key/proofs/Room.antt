@@ -24,7 +24,7 @@ module _ (c : Composition) (key : ℕ) where
   -- where all cells are used, what would not fit is refused by 2
   written-short : isFull c key ≡ false → length (writtenFor c key) ≤ limit
   unfolding writtenFor isFull textOf
-  written-short = go (c .mode)
+  written-short = go (c .settings .mode)
     where
       go : (m : Mode) → inMode m (ltb limit (length (nextCells c key))) false ≡ false
           → length (inMode m (textOf (nextCells c key)) (key ∷ [])) ≤ limit

@@ -9,14 +9,14 @@ use Rattle.p0_choice.specs.Choice.{pick}
 use Rattle.p0_refusals.specs.declared.Refusal.{Refusal}
 use Rattle.p0_refusals.specs.declared.Refusal.the-variants.{Foreign, Full, Short, Unsound}
 use Rattle.p1_letters.specs.Alphabet.{inAlphabet, asciiLower}
-use Rattle.p2_input_method.specs.declared.InputMethod.{InputMethod}
 use Rattle.p3_cells.specs.Cells.{limit}
 use Rattle.p3_cells.specs.Text.{shown}
 use Rattle.p3_cells.specs.declared.Cell.{Cell}
 use Rattle.p3_cells.specs.declared.Mode.{Mode}
+use Rattle.p3_cells.specs.declared.Settings.{Settings}
+use Rattle.p0_refusals.specs.declared.Answer.{Answer}
 use Rattle.p0_refusals.specs.declared.Answer.the-variants.{Done, Refused}
-use Rattle.p3_step.specs.Mirror.{stepOf}
-use Rattle.p3_step.specs.declared.Change.the-variants.{Nothing}
+use Rattle.p3_step.specs.Mirror.{still, stepOf}
 use Rattle.p3_step.specs.declared.Step.{Step}
 use Rattle.p3_key.specs.Process.{inMode}
 use Rattle.p3_key.specs.declared.Stroke.{Stroke}
@@ -30,31 +30,27 @@ unfoldable pub letterFor : Mode → ℕ → Cell → ℕ
 letterFor o key z = inMode o (shown z) key
 
 -- ---- the step with the refusals; n cells are used, and the output has room letters
+abbrev pub stays : ℕ → ℕ → Answer → Stroke
+stays n letters answer = record { step = still n; letters = letters; answer = answer }
+
 abbrev pub noStroke : Refusal → ℕ → Stroke
-noStroke r n = record { change = Nothing; at = 0; also = 0; mark = 0; count = n; letters = 0; answer = Refused r }
+noStroke r n = stays n 0 (Refused r)
+
+-- the key alone is written, or the letters of all cells
+abbrev pub wroteKey : ℕ → Stroke
+wroteKey n = stays n 1 (Done 1)
+
+abbrev pub wrote : Step → Stroke
+wrote s = record { step = s; letters = s .count; answer = Done (s .count) }
 
 unfoldable pub stepStroke : Step → ℕ → ℕ → Stroke
-stepStroke s n room =
-    pick (ltb limit (s .count)) (noStroke Full n)
-    (pick (ltb room (s .count)) (noStroke Short n)
-    (record {
-      change = s .change;
-      at = s .at;
-      also = s .also;
-      mark = s .mark;
-      count = s .count;
-      letters = s .count;
-      answer = Done
-          (s .count);
-    }))
+stepStroke s n room = pick (ltb limit (s .count)) (noStroke Full n) (pick (ltb room (s .count)) (noStroke Short n) (wrote s))
 
 unfoldable pub passStroke : ℕ → ℕ → Stroke
-passStroke n room =
-    pick (ltb room 1) (noStroke Short n)
-    (record { change = Nothing; at = 0; also = 0; mark = 0; count = n; letters = 1; answer = Done 1 })
+passStroke n room = pick (ltb room 1) (noStroke Short n) (wroteKey n)
 
-unfoldable pub strokeOf : Bool → InputMethod → Mode → List Cell → ℕ → ℕ → ℕ → Stroke
-strokeOf sound m o cs key n room =
-    pick sound (pick (inAlphabet key) (inMode o (stepStroke (stepOf m cs (asciiLower key)) n room) (passStroke n room))
+unfoldable pub strokeOf : Bool → Settings → List Cell → ℕ → ℕ → ℕ → Stroke
+strokeOf sound z cs key n room =
+    pick sound (pick (inAlphabet key) (inMode (z .mode) (stepStroke (stepOf z cs (asciiLower key)) n room) (passStroke n room))
     (noStroke Foreign n))
     (noStroke Unsound n)

@@ -24,15 +24,15 @@ inMode English a b = b
 
 -- the cells after the key
 unfoldable pub nextCells : Composition → ℕ → List Cell
-nextCells c key = keyCells (c .method) (used c) key
+nextCells c key = keyCells (c .settings) (used c) key
 
 -- what is written: the text, and "in English mode .. that one letter"
 unfoldable pub writtenFor : Composition → ℕ → List ℕ
-writtenFor c key = inMode (c .mode) (textOf (nextCells c key)) (key ∷ [])
+writtenFor c key = inMode (c .settings .mode) (textOf (nextCells c key)) (key ∷ [])
 
 -- "a letter must be appended and 32 cells are used": then there would be one more
 unfoldable pub isFull : Composition → ℕ → Bool
-isFull c key = inMode (c .mode) (ltb limit (length (nextCells c key))) false
+isFull c key = inMode (c .settings .mode) (ltb limit (length (nextCells c key))) false
 
 -- what there is to write, or the refusal
 unfoldable pub keyOutcome : Composition → ℕ → Outcome
@@ -42,7 +42,7 @@ keyOutcome c key =
 
 -- the composition after a key that is not refused; English mode: "nothing changes"
 unfoldable pub keyNext : Composition → ℕ → Composition
-keyNext c key = inMode (c .mode) (holding c (nextCells c key)) c
+keyNext c key = inMode (c .settings .mode) (holding c (nextCells c key)) c
 
 -- what the key leaves, where the output has n places
 unfoldable pub keyed : Composition → ℕ → ℕ → After

@@ -11,28 +11,24 @@ ghost use Rattle.p0_refusals.specs.Answers.{output};
 ghost use Rattle.p3_cells.specs.Cells.{limit, isCell, isSound};
 ghost use Rattle.p3_cells.specs.Mirror.{rowCells};
 ghost use Rattle.p3_key.specs.Process.{keyOutcome, keyed};
-ghost use Rattle.p3_key.specs.Mirror.{soundBy, letterFor, noStroke, stepStroke, passStroke, strokeOf};
+ghost use Rattle.p3_key.specs.Mirror.{soundBy, letterFor, stays, noStroke, stepStroke, passStroke, strokeOf};
 use p0_refusals::Answer;
 use p0_refusals::Refusal;
 use p1_letters as letters;
-use p2_input_method::InputMethod;
 use p3_cells as cells;
 use p3_cells::After;
 use p3_cells::Cell;
 use p3_cells::Composition;
 use p3_cells::LIMIT;
 use p3_cells::Mode;
+use p3_cells::Settings;
 use p3_step as step;
 use p3_step::Change;
 use p3_step::Step;
 
 // A step or a refusal, with how many letters are written and the answer.
 pub struct Stroke {
-    pub change: Change,
-    pub at: usize,
-    pub also: usize,
-    pub mark: u16,
-    pub count: usize,
+    pub step: Step,
     pub letters: usize,
     pub answer: Answer,
 }
@@ -48,18 +44,27 @@ fn letter_for(o: Mode, key: u32, z: Cell) -> u32
     }
 }
 
+// No cell changes.
+fn stay(n: usize, letters: usize, answer: Answer) -> Stroke
+    ensures { λ r. ⌜ r ≡ stays n letters answer ⌝ }
+{
+    Stroke {
+        step: Step {
+            change: Change::Nothing,
+            at: 0,
+            also: 0,
+            mark: 0,
+            count: n,
+        },
+        letters: letters,
+        answer: answer,
+    }
+}
+
 fn refuse(r: Refusal, n: usize) -> Stroke
     ensures { λ e. ⌜ e ≡ noStroke r n ⌝ }
 {
-    Stroke {
-        change: Change::Nothing,
-        at: 0,
-        also: 0,
-        mark: 0,
-        count: n,
-        letters: 0,
-        answer: Answer::Refused(r),
-    }
+    stay(n, 0, Answer::Refused(r))
 }
 
 fn step_stroke(s: Step, n: usize, room: usize) -> Stroke
@@ -72,13 +77,8 @@ fn step_stroke(s: Step, n: usize, room: usize) -> Stroke
     if room < count {
         return refuse(Refusal::Short, n);
     }
-    let change = s.change;
     Stroke {
-        change: change,
-        at: s.at,
-        also: s.also,
-        mark: s.mark,
-        count: count,
+        step: s,
         letters: count,
         answer: Answer::Done(count),
     }
@@ -90,30 +90,14 @@ fn pass_stroke(n: usize, room: usize) -> Stroke
     if room < 1 {
         return refuse(Refusal::Short, n);
     }
-    Stroke {
-        change: Change::Nothing,
-        at: 0,
-        also: 0,
-        mark: 0,
-        count: n,
-        letters: 1,
-        answer: Answer::Done(1),
-    }
+    stay(n, 1, Answer::Done(1))
 }
 
 // What the key does. The places lie in the array, and the letters fit into it and into the output.
-fn stroke_of(
-    sound: bool,
-    m: InputMethod,
-    o: Mode,
-    row: &[u32],
-    key: u32,
-    n: usize,
-    room: usize,
-) -> Stroke
+fn stroke_of(sound: bool, z: Settings, row: &[u32], key: u32, n: usize, room: usize) -> Stroke
     requires { ⌜ length (now row) ≤ limit ⌝ }
-    ensures { λ r. ⌜ (r ≡ strokeOf sound m o (rowCells (now (row .entry))) key n room) × (r .at < limit) × (r .also < limit)
-        × (r .letters ≤ limit) × (r .letters ≤ room) ⌝ }
+    ensures { λ r. ⌜ (r ≡ strokeOf sound z (rowCells (now (row .entry))) key n room) × (r .step .at < limit)
+        × (r .step .also < limit) × (r .letters ≤ limit) × (r .letters ≤ room) ⌝ }
 {
     if !sound {
         return refuse(Refusal::Unsound, n);
@@ -121,9 +105,10 @@ fn stroke_of(
     if !letters::in_alphabet(key) {
         return refuse(Refusal::Foreign, n);
     }
+    let o = z.mode;
     match o {
         Mode::Vietnamese => {
-            let s = step::first_step(m, row, letters::ascii_lower(key));
+            let s = step::first_step(z, row, letters::ascii_lower(key));
             step_stroke(s, n, room)
         }
         Mode::English => pass_stroke(n, room),
@@ -191,23 +176,25 @@ fn compose(mut c: Composition, key: u32, out: &mut [u32], trusted: bool) -> Afte
         i += 1;
     }
     let sound = is_sound(trusted, n, faults);
-    let m = c.method;
-    let o = c.mode;
-    let e = stroke_of(sound, m, o, &bases[0..used], key, n, out.len());
-    let change = e.change;
-    let at = e.at;
-    let also = e.also;
+    let z = c.settings;
+    let o = z.mode;
+    let e = stroke_of(sound, z, &bases[0..used], key, n, out.len());
+    let s = e.step;
+    let change = s.change;
+    let at = s.at;
+    let also = s.also;
+    let y = c.cells[also];
     let p = step::put_cell(
         change,
-        e.mark,
+        s.mark,
         c.cells[at],
-        c.cells[also],
+        y,
         key,
         letters::ascii_lower(key),
     );
+    c.cells[also] = step::also_cell(change, y);
     c.cells[at] = p;
-    c.cells[also] = step::also_cell(change, p);
-    c.count = e.count;
+    c.count = s.count;
     let count = e.letters;
     let mut j: usize = 0;
     while j < count {

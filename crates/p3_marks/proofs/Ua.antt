@@ -37,37 +37,26 @@ module _ (row : List ℕ) where
     ua-no-u t = rw (row-length row, le-ltb (length row) 2 h, row-base row (length row - 2), ← p, ne-eqb u 117 t) refl
 
     module _ (a : ℕ) (t : u ≡ 117) (q : a ≡ asciiLower (getD row (length row - 1) 0)) where
-      by-q : (b : Bool) → a ≡ 97 → afterQ (rowCells row) (length row - 2) ≡ b
-          → pick b Nowhere (At (length row - 2)) ≡ uaPlace (rowCells row)
+      after-u : uaPlace (rowCells row)
+          ≡ pick (eqb a 97) (pick (afterQ (rowCells row) (length row - 2)) Nowhere (At (length row - 2))) Nowhere
       unfolding uaPlace
-      by-q b v f =
+      after-u =
           rw (
             row-length row,
             le-ltb (length row) 2 h,
             row-base row (length row - 2),
             ← p,
             eq-eqb u 117 t,
-            row-base row
-                (length row - 1),
+            row-base row (length row - 1),
             ← q,
-            eq-eqb a 97 v,
-            f,
           ) refl
 
+      by-q : (b : Bool) → a ≡ 97 → afterQ (rowCells row) (length row - 2) ≡ b
+          → pick b Nowhere (At (length row - 2)) ≡ uaPlace (rowCells row)
+      by-q b v f = rw (after-u, eq-eqb a 97 v, f) refl
+
       pub ua-no-a : (a ≡ 97 → ⊥) → Nowhere ≡ uaPlace (rowCells row)
-      unfolding uaPlace
-      ua-no-a v =
-          rw (
-            row-length row,
-            le-ltb (length row) 2 h,
-            row-base row (length row - 2),
-            ← p,
-            eq-eqb u 117 t,
-            row-base row
-                (length row - 1),
-            ← q,
-            ne-eqb a 97 v,
-          ) refl
+      ua-no-a v = rw (after-u, ne-eqb a 97 v) refl
 
       pub ua-whole : a ≡ 97 → length row < 3 → At (length row - 2) ≡ uaPlace (rowCells row)
       ua-whole v l = by-q false v (after-first (rowCells row) (length row - 2) (omega arith))

@@ -34,8 +34,10 @@ uoPlace cs = uoBack cs 5 (length cs)
 unfoldable pub hornU : Cell → Cell → Cell
 hornU u o = record { base = code "ư"; mark = code "ư"; tone = o .tone; upper = u .upper }
 
-abbrev pub hornO : Cell
-hornO = record { base = code "ơ"; mark = code "ơ"; tone = 0; upper = false }
+unfoldable pub hornO : Cell → Cell
+hornO o = record { base = code "ơ"; mark = code "ơ"; tone = 0; upper = false }
 
+-- each of the two is made of the cells that stood
 unfoldable pub uoMade : List Cell → ℕ → List Cell
-uoMade cs i = set (set cs i (hornU (getD cs i blank) (getD cs (suc i) blank))) (suc i) hornO
+uoMade cs i =
+    set (set cs (suc i) (hornO (getD cs (suc i) blank))) i (hornU (getD cs i blank) (getD cs (suc i) blank))

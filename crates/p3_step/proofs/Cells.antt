@@ -4,7 +4,7 @@ use mathlib.Core.Path.{_≡_, refl}
 use mathlib.Core.Bool.{false}
 use Rattle.p3_cells.specs.Cells.{typed}
 use Rattle.p3_cells.specs.declared.Cell.{Cell}
-use Rattle.p3_marks.specs.Uo.{hornU}
+use Rattle.p3_marks.specs.Uo.{hornU, hornO}
 use Rattle.p3_marks.specs.Ua.{marked}
 use Rattle.p3_step.specs.Mirror.{putCell, alsoCell}
 use Rattle.p3_step.specs.declared.Change.{Change}
@@ -31,23 +31,23 @@ module _ (h : Change) (l : ℕ) (x y : Cell) (key k : ℕ) where
   unfolding putCell
   put-append p e q = rw e q
 
-module _ (h : Change) (p : Cell) where
-  pub also-pair : h ≡ Pair → record { base = 0x1a1; mark = 0x1a1; tone = 0; upper = false } ≡ alsoCell h p
-  unfolding alsoCell
+module _ (h : Change) (y : Cell) where
+  pub also-pair : h ≡ Pair → record { base = 0x1a1; mark = 0x1a1; tone = 0; upper = false } ≡ alsoCell h y
+  unfolding alsoCell hornO
   also-pair e = rw e refl
 
-  pub also-nothing : h ≡ Nothing → p ≡ alsoCell h p
+  pub also-nothing : h ≡ Nothing → y ≡ alsoCell h y
   unfolding alsoCell
   also-nothing e = rw e refl
 
-  pub also-tone : h ≡ Tone → p ≡ alsoCell h p
+  pub also-tone : h ≡ Tone → y ≡ alsoCell h y
   unfolding alsoCell
   also-tone e = rw e refl
 
-  pub also-mark : h ≡ Mark → p ≡ alsoCell h p
+  pub also-mark : h ≡ Mark → y ≡ alsoCell h y
   unfolding alsoCell
   also-mark e = rw e refl
 
-  pub also-append : h ≡ Append → p ≡ alsoCell h p
+  pub also-append : h ≡ Append → y ≡ alsoCell h y
   unfolding alsoCell
   also-append e = rw e refl

@@ -6,7 +6,7 @@ use lib.ListN.{length, set}
 use Rattle.p0_choice.proofs.Choices.{pick-both}
 use Rattle.p1_letters.specs.Alphabet.{asciiLower}
 use Rattle.p2_input_method.specs.Rules.{isToneKey, isHornKey}
-use Rattle.p2_input_method.specs.declared.InputMethod.{InputMethod}
+use Rattle.p3_cells.specs.declared.Settings.{Settings}
 use Rattle.p3_cells.specs.Cells.{typed}
 use Rattle.p3_cells.specs.Place.{placeOr}
 use Rattle.p3_cells.specs.declared.Cell.{Cell}
@@ -26,36 +26,36 @@ use Rattle.p3_step.specs.Key.{toneMade, appended, markOrLater, hornOrLat
 pub data Framed (cs : List Cell) : List Cell → Type 0 where
   appends : (x : Cell) → Framed cs (cs ++ (x ∷ []))
   changes : (i : ℕ) (x : Cell) → i < length cs → Framed cs (set cs i x)
-  changesTwo : (i : ℕ) (x y : Cell) → suc i < length cs → Framed cs (set (set cs i x) (suc i) y)
+  changesTwo : (i : ℕ) (x y : Cell) → suc i < length cs → Framed cs (set (set cs (suc i) y) i x)
 
 place-both : {A : Type 0} (P : A → Type 0) (p : Place) (made : ℕ → A) (later : A) → ((i : ℕ) → p ≡ At i → P (made i)) → P later
     → P (placeOr p made later)
 place-both P Nowhere made later f g = g
 place-both P (At i) made later f g = f i refl
 
-module _ (m : InputMethod) (cs : List Cell) (key : ℕ) where
+module _ (z : Settings) (cs : List Cell) (key : ℕ) where
   appended-frame : Framed cs (appended cs key)
   unfolding appended
   appended-frame = appends (typed key)
 
-  mark-frame : (k : ℕ) → Framed cs (markOrLater m cs key k)
+  mark-frame : (k : ℕ) → Framed cs (markOrLater z cs key k)
   unfolding markOrLater markMade
   mark-frame k =
-      place-both (Framed cs) (markPlace m cs k) (markMade m cs k) (appended cs key)
-      (λ i e. changes i _ (place-marks m cs k i e .below)) appended-frame
+      place-both (Framed cs) (markPlace (z .method) cs k) (markMade (z .method) cs k) (appended cs key)
+      (λ i e. changes i _ (place-marks (z .method) cs k i e .below)) appended-frame
 
-  horn-frame : (k : ℕ) → Framed cs (hornOrLater m cs key k)
+  horn-frame : (k : ℕ) → Framed cs (hornOrLater z cs key k)
   unfolding hornOrLater uoMade uaMade
   horn-frame k =
-      pick-both (Framed cs) (isHornKey m k) _ _
+      pick-both (Framed cs) (isHornKey (z .method) k) _ _
       (λ e. place-both (Framed cs) (uoPlace cs) (uoMade cs) _ (λ i u. changesTwo i _ _ (uo-below cs i u))
       (place-both (Framed cs) (uaPlace cs) (uaMade cs) _ (λ i u. changes i _ (ua-below cs i u)) (mark-frame k)))
       (λ e. mark-frame k)
 
-  pub key-frame : Framed cs (keyCells m cs key)
+  pub key-frame : Framed cs (keyCells z cs key)
   unfolding keyCells toneMade
   key-frame =
-      pick-both (Framed cs) (isToneKey m (asciiLower key)) _ _
+      pick-both (Framed cs) (isToneKey (z .method) (asciiLower key)) _ _
       (λ t. pick-both (Framed cs) (anyVowel cs) _ _ (λ v. changes (tonePlace cs) _ (tone-below cs (vowel-some cs v)))
       (λ v. horn-frame (asciiLower key)))
       (λ t. horn-frame (asciiLower key))

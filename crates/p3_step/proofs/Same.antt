@@ -1,12 +1,12 @@
 -- Cells in use and the row of their bases have their step in common.
-use Prim.Native.Nat.{ℕ, _+_}
+use Prim.Native.Nat.{ℕ}
 use mathlib.Core.Path.{_≡_, refl}
 use mathlib.Core.Bool.{true}
 use mathlib.Core.List.{List}
 use lib.ListN.{length}
 use Rattle.p0_choice.specs.Choice.{each}
 use Rattle.p2_input_method.specs.Rules.{markFor}
-use Rattle.p2_input_method.specs.declared.InputMethod.{InputMethod}
+use Rattle.p3_cells.specs.declared.Settings.{Settings}
 use Rattle.p3_cells.specs.Cells.{isCell}
 use Rattle.p3_cells.specs.Place.{placeOr}
 use Rattle.p3_cells.specs.declared.Cell.{Cell}
@@ -21,32 +21,23 @@ use Rattle.p3_marks.proofs.Base.{same-base, same-length}
 use Rattle.p3_marks.proofs.Uo.{uo-same}
 use Rattle.p3_marks.proofs.Ua.{ua-same}
 use Rattle.p3_marks.proofs.Mark.{mark-same}
-use Rattle.p3_step.specs.Mirror.{toneFor, uoFor, uaFor, markAt, markStep, uaStep, uoStep, stepOf}
-use Rattle.p3_step.specs.declared.Change.the-variants.{Append}
+use Rattle.p3_step.specs.Mirror.{marksAt, appendsAt, toneFor, uoFor, uaFor, markStep, uaStep, uoStep, stepOf}
 
-mark-step-same : (m : InputMethod) (cs : List Cell) (k : ℕ) → markStep m (rowCells (bases cs)) k ≡ markStep m cs k
+mark-step-same : (z : Settings) (cs : List Cell) (k : ℕ) → markStep z (rowCells (bases cs)) k ≡ markStep z cs k
 unfolding markStep
-mark-step-same m cs k = rw (mark-same m cs k) (go (markPlace m cs k))
+mark-step-same z cs k = rw (mark-same (z .method) cs k) (go (markPlace (z .method) cs k))
   where
     go : (p : Place)
-        → placeOr p (λ i. markAt (rowCells (bases cs)) (markFor m (baseAt (rowCells (bases cs)) i) k) i)
-        (record {
-          change = Append;
-          at = length (rowCells (bases cs));
-          also = length (rowCells (bases cs));
-          mark = 0;
-          count = length
-              (rowCells (bases cs)) + 1;
-        })
-        ≡ placeOr p (λ i. markAt cs (markFor m (baseAt cs i) k) i)
-        (record { change = Append; at = length cs; also = length cs; mark = 0; count = length cs + 1 })
+        → placeOr p (λ i. marksAt (length (rowCells (bases cs))) (markFor (z .method) (baseAt (rowCells (bases cs)) i) k) i)
+        (appendsAt (length (rowCells (bases cs))))
+        ≡ placeOr p (λ i. marksAt (length cs) (markFor (z .method) (baseAt cs i) k) i) (appendsAt (length cs))
     go Nowhere = rw (same-length cs) refl
     go (At i) = rw (same-base cs i, same-length cs) refl
 
-uo-step-same : (m : InputMethod) (cs : List Cell) (k : ℕ) → uoStep m (rowCells (bases cs)) k ≡ uoStep m cs k
+uo-step-same : (z : Settings) (cs : List Cell) (k : ℕ) → uoStep z (rowCells (bases cs)) k ≡ uoStep z cs k
 unfolding uoStep uaStep uoFor uaFor
-uo-step-same m cs k = simp (uo-same cs, ua-same cs, same-length cs, mark-step-same m cs k)
+uo-step-same z cs k = simp (uo-same cs, ua-same cs, same-length cs, mark-step-same z cs k)
 
-pub step-same : (m : InputMethod) (cs : List Cell) (k : ℕ) → each isCell cs ≡ true → stepOf m (rowCells (bases cs)) k ≡ stepOf m cs k
+pub step-same : (z : Settings) (cs : List Cell) (k : ℕ) → each isCell cs ≡ true → stepOf z (rowCells (bases cs)) k ≡ stepOf z cs k
 unfolding stepOf toneFor
-step-same m cs k e = simp (any-same cs e, tone-place-same cs e, same-length cs, uo-step-same m cs k)
+step-same z cs k e = simp (any-same cs e, tone-place-same cs e, same-length cs, uo-step-same z cs k)

@@ -5,7 +5,7 @@ use lib.ListN.{getD, set}
 use Rattle.p0_choice.specs.Choice.{pick}
 use Rattle.p1_letters.specs.Alphabet.{asciiLower}
 use Rattle.p2_input_method.specs.Rules.{isToneKey, isHornKey}
-use Rattle.p2_input_method.specs.declared.InputMethod.{InputMethod}
+use Rattle.p3_cells.specs.declared.Settings.{Settings}
 use Rattle.p3_cells.specs.Cells.{blank, typed}
 use Rattle.p3_cells.specs.Place.{placeOr}
 use Rattle.p3_cells.specs.declared.Cell.{Cell}
@@ -26,17 +26,18 @@ unfoldable pub appended : List Cell → ℕ → List Cell
 appended cs key = cs ++ (typed key ∷ [])
 
 -- *Mark*, else *Append*; k is the key in ASCII lower case
-unfoldable pub markOrLater : InputMethod → List Cell → ℕ → ℕ → List Cell
-markOrLater m cs key k = placeOr (markPlace m cs k) (markMade m cs k) (appended cs key)
+unfoldable pub markOrLater : Settings → List Cell → ℕ → ℕ → List Cell
+markOrLater z cs key k = placeOr (markPlace (z .method) cs k) (markMade (z .method) cs k) (appended cs key)
 
 -- *uo* and *ua*, on their key, else the later ones
-unfoldable pub hornOrLater : InputMethod → List Cell → ℕ → ℕ → List Cell
-hornOrLater m cs key k =
-    pick (isHornKey m k) (placeOr (uoPlace cs) (uoMade cs) (placeOr (uaPlace cs) (uaMade cs) (markOrLater m cs key k)))
-    (markOrLater m cs key k)
+unfoldable pub hornOrLater : Settings → List Cell → ℕ → ℕ → List Cell
+hornOrLater z cs key k =
+    pick (isHornKey (z .method) k) (placeOr (uoPlace cs) (uoMade cs) (placeOr (uaPlace cs) (uaMade cs) (markOrLater z cs key k)))
+    (markOrLater z cs key k)
 
 -- *Tone*: "k is a tone key and any cell's letter in the whole composition .. is a composer vowel", else the later ones
-unfoldable pub keyCells : InputMethod → List Cell → ℕ → List Cell
-keyCells m cs key =
-    pick (isToneKey m (asciiLower key)) (pick (anyVowel cs) (toneMade cs (asciiLower key)) (hornOrLater m cs key (asciiLower key)))
-    (hornOrLater m cs key (asciiLower key))
+unfoldable pub keyCells : Settings → List Cell → ℕ → List Cell
+keyCells z cs key =
+    pick (isToneKey (z .method) (asciiLower key))
+    (pick (anyVowel cs) (toneMade cs (asciiLower key)) (hornOrLater z cs key (asciiLower key)))
+    (hornOrLater z cs key (asciiLower key))

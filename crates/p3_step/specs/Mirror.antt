@@ -7,10 +7,12 @@ use mathlib.Core.List.{List}
 use lib.ListN.{length}
 use Rattle.p0_choice.specs.Choice.{pick}
 use Rattle.p2_input_method.specs.Rules.{isToneKey, isHornKey, markFor}
-use Rattle.p2_input_method.specs.declared.InputMethod.{InputMethod}
+use Rattle.p3_cells.specs.declared.Settings.{Settings}
 use Rattle.p3_cells.specs.Cells.{typed}
+use Rattle.p3_cells.specs.Mirror.{cellOf}
 use Rattle.p3_cells.specs.Place.{placeOr}
 use Rattle.p3_cells.specs.declared.Cell.{Cell}
+use Rattle.p3_cells.specs.declared.Composition.{Composition}
 use Rattle.p3_tone.specs.TonePlace.{anyVowel, tonePlace}
 use Rattle.p3_marks.specs.Uo.{baseAt, uoPlace, hornU, hornO}
 use Rattle.p3_marks.specs.Ua.{uaPlace, marked}
@@ -21,34 +23,44 @@ use Rattle.p3_step.specs.declared.Change.{Change}
 use Rattle.p3_step.specs.declared.Change.the-variants.{Nothing, Tone, Mark, Pair, Append}
 use Rattle.p3_step.specs.declared.Step.{Step}
 
--- ---- the step
-unfoldable pub toneFor : InputMethod → List Cell → ℕ → Place
-toneFor m cs k = pick (isToneKey m k) (pick (anyVowel cs) (At (tonePlace cs)) Nowhere) Nowhere
+-- ---- steps of n cells in use: nothing changes, a cell takes a tone or a mark, two become a pair, or there is one more
+abbrev pub still : ℕ → Step
+still n = record { change = Nothing; at = 0; also = 0; mark = 0; count = n }
 
-unfoldable pub uoFor : InputMethod → List Cell → ℕ → Place
-uoFor m cs k = pick (isHornKey m k) (uoPlace cs) Nowhere
+abbrev pub tonesAt : ℕ → ℕ → Step
+tonesAt n i = record { change = Tone; at = i; also = i; mark = 0; count = n }
 
-unfoldable pub uaFor : InputMethod → List Cell → ℕ → Place
-uaFor m cs k = pick (isHornKey m k) (uaPlace cs) Nowhere
+abbrev pub marksAt : ℕ → ℕ → ℕ → Step
+marksAt n l i = record { change = Mark; at = i; also = i; mark = l; count = n }
 
-abbrev pub markAt : List Cell → ℕ → ℕ → Step
-markAt cs l i = record { change = Mark; at = i; also = i; mark = l; count = length cs }
+abbrev pub pairsAt : ℕ → ℕ → Step
+pairsAt n i = record { change = Pair; at = i; also = i + 1; mark = 0; count = n }
 
-unfoldable pub markStep : InputMethod → List Cell → ℕ → Step
-markStep m cs k =
-    placeOr (markPlace m cs k) (λ i. markAt cs (markFor m (baseAt cs i) k) i)
-    (record { change = Append; at = length cs; also = length cs; mark = 0; count = length cs + 1 })
+abbrev pub appendsAt : ℕ → Step
+appendsAt n = record { change = Append; at = n; also = n; mark = 0; count = n + 1 }
 
-unfoldable pub uaStep : InputMethod → List Cell → ℕ → Step
-uaStep m cs k = placeOr (uaFor m cs k) (λ i. markAt cs (code "ư") i) (markStep m cs k)
+-- ---- the step of a key
+unfoldable pub toneFor : Settings → List Cell → ℕ → Place
+toneFor z cs k = pick (isToneKey (z .method) k) (pick (anyVowel cs) (At (tonePlace cs)) Nowhere) Nowhere
 
-unfoldable pub uoStep : InputMethod → List Cell → ℕ → Step
-uoStep m cs k =
-    placeOr (uoFor m cs k) (λ i. record { change = Pair; at = i; also = i + 1; mark = 0; count = length cs }) (uaStep m cs k)
+unfoldable pub uoFor : Settings → List Cell → ℕ → Place
+uoFor z cs k = pick (isHornKey (z .method) k) (uoPlace cs) Nowhere
 
-unfoldable pub stepOf : InputMethod → List Cell → ℕ → Step
-stepOf m cs k =
-    placeOr (toneFor m cs k) (λ i. record { change = Tone; at = i; also = i; mark = 0; count = length cs }) (uoStep m cs k)
+unfoldable pub uaFor : Settings → List Cell → ℕ → Place
+uaFor z cs k = pick (isHornKey (z .method) k) (uaPlace cs) Nowhere
+
+unfoldable pub markStep : Settings → List Cell → ℕ → Step
+markStep z cs k =
+    placeOr (markPlace (z .method) cs k) (λ i. marksAt (length cs) (markFor (z .method) (baseAt cs i) k) i) (appendsAt (length cs))
+
+unfoldable pub uaStep : Settings → List Cell → ℕ → Step
+uaStep z cs k = placeOr (uaFor z cs k) (marksAt (length cs) (code "ư")) (markStep z cs k)
+
+unfoldable pub uoStep : Settings → List Cell → ℕ → Step
+uoStep z cs k = placeOr (uoFor z cs k) (pairsAt (length cs)) (uaStep z cs k)
+
+unfoldable pub stepOf : Settings → List Cell → ℕ → Step
+stepOf z cs k = placeOr (toneFor z cs k) (tonesAt (length cs)) (uoStep z cs k)
 
 -- ---- the cells that come at the two places, where x and y stand
 unfoldable pub putCell : Change → ℕ → Cell → Cell → ℕ → ℕ → Cell
@@ -59,8 +71,15 @@ putCell Pair l x y key k = hornU x y
 putCell Append l x y key k = typed key
 
 unfoldable pub alsoCell : Change → Cell → Cell
-alsoCell Nothing p = p
-alsoCell Tone p = p
-alsoCell Mark p = p
-alsoCell Pair p = hornO
-alsoCell Append p = p
+alsoCell Nothing y = y
+alsoCell Tone y = y
+alsoCell Mark y = y
+alsoCell Pair y = hornO y
+alsoCell Append y = y
+
+-- the two cells that a step puts into a composition, each made of what stands there
+abbrev pub put : Step → Composition → ℕ → ℕ → Cell
+put s c key k = putCell (s .change) (s .mark) (cellOf c (s .at)) (cellOf c (s .also)) key k
+
+abbrev pub alsoPut : Step → Composition → Cell
+alsoPut s c = alsoCell (s .change) (cellOf c (s .also))

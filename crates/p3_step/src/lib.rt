@@ -8,10 +8,10 @@ ghost use Rattle.p3_cells.specs.Mirror.{rowCells};
 ghost use Rattle.p3_step.specs.Mirror.{toneFor, uoFor, uaFor, markStep, uaStep, uoStep, stepOf, putCell, alsoCell};
 use p1_letters as letters;
 use p2_input_method as input_method;
-use p2_input_method::InputMethod;
 use p3_cells as cells;
 use p3_cells::Cell;
 use p3_cells::Place;
+use p3_cells::Settings;
 use p3_marks as marks;
 use p3_tone as place;
 
@@ -24,7 +24,7 @@ pub enum Change {
     Append,
 }
 
-// A step as numbers: the place, the place of a pair's ơ (else the same one), the mark, and how many cells there are then.
+// A step as numbers: the place, the other place that changes (else the same one), the mark, and how many cells there are then.
 pub struct Step {
     pub change: Change,
     pub at: usize,
@@ -35,11 +35,12 @@ pub struct Step {
 
 // ---- the steps, each where the ones before it do not fit
 
-fn mark_step(m: InputMethod, row: &[u32], k: u32) -> Step
+fn mark_step(z: Settings, row: &[u32], k: u32) -> Step
     requires { ⌜ length (now row) ≤ limit ⌝ }
-    ensures { λ r. ⌜ r ≡ markStep m (rowCells (now (row .entry))) k ⌝ }
+    ensures { λ r. ⌜ r ≡ markStep z (rowCells (now (row .entry))) k ⌝ }
 {
     let n = row.len();
+    let m = z.method;
     let f = marks::find_mark_backtrack(m, row, k);
     match f {
         Place::At(i) => {
@@ -63,20 +64,21 @@ fn mark_step(m: InputMethod, row: &[u32], k: u32) -> Step
     }
 }
 
-fn ua_place(m: InputMethod, row: &[u32], k: u32) -> Place
-    ensures { λ r. ⌜ r ≡ uaFor m (rowCells (now (row .entry))) k ⌝ }
+fn ua_place(z: Settings, row: &[u32], k: u32) -> Place
+    ensures { λ r. ⌜ r ≡ uaFor z (rowCells (now (row .entry))) k ⌝ }
 {
+    let m = z.method;
     if !input_method::is_horn_key(m, k) {
         return Place::Nowhere;
     }
     marks::find_ua(row)
 }
 
-fn ua_step(m: InputMethod, row: &[u32], k: u32) -> Step
+fn ua_step(z: Settings, row: &[u32], k: u32) -> Step
     requires { ⌜ length (now row) ≤ limit ⌝ }
-    ensures { λ r. ⌜ r ≡ uaStep m (rowCells (now (row .entry))) k ⌝ }
+    ensures { λ r. ⌜ r ≡ uaStep z (rowCells (now (row .entry))) k ⌝ }
 {
-    let f = ua_place(m, row, k);
+    let f = ua_place(z, row, k);
     match f {
         Place::At(i) => Step {
             change: Change::Mark,
@@ -85,24 +87,25 @@ fn ua_step(m: InputMethod, row: &[u32], k: u32) -> Step
             mark: 0x1b0,
             count: row.len(),
         },
-        Place::Nowhere => mark_step(m, row, k),
+        Place::Nowhere => mark_step(z, row, k),
     }
 }
 
-fn uo_place(m: InputMethod, row: &[u32], k: u32) -> Place
-    ensures { λ r. ⌜ r ≡ uoFor m (rowCells (now (row .entry))) k ⌝ }
+fn uo_place(z: Settings, row: &[u32], k: u32) -> Place
+    ensures { λ r. ⌜ r ≡ uoFor z (rowCells (now (row .entry))) k ⌝ }
 {
+    let m = z.method;
     if !input_method::is_horn_key(m, k) {
         return Place::Nowhere;
     }
     marks::find_uo(row)
 }
 
-fn uo_step(m: InputMethod, row: &[u32], k: u32) -> Step
+fn uo_step(z: Settings, row: &[u32], k: u32) -> Step
     requires { ⌜ length (now row) ≤ limit ⌝ }
-    ensures { λ r. ⌜ r ≡ uoStep m (rowCells (now (row .entry))) k ⌝ }
+    ensures { λ r. ⌜ r ≡ uoStep z (rowCells (now (row .entry))) k ⌝ }
 {
-    let f = uo_place(m, row, k);
+    let f = uo_place(z, row, k);
     match f {
         Place::At(i) => Step {
             change: Change::Pair,
@@ -111,29 +114,25 @@ fn uo_step(m: InputMethod, row: &[u32], k: u32) -> Step
             mark: 0,
             count: row.len(),
         },
-        Place::Nowhere => ua_step(m, row, k),
+        Place::Nowhere => ua_step(z, row, k),
     }
 }
 
-fn tone_place(m: InputMethod, row: &[u32], k: u32) -> Place
-    requires { ⌜ length (now row) ≤ limit ⌝ }
-    ensures { λ r. ⌜ r ≡ toneFor m (rowCells (now (row .entry))) k ⌝ }
+fn tone_place(z: Settings, row: &[u32], k: u32) -> Place
+    ensures { λ r. ⌜ r ≡ toneFor z (rowCells (now (row .entry))) k ⌝ }
 {
+    let m = z.method;
     if !input_method::is_tone_key(m, k) {
         return Place::Nowhere;
     }
-    if !place::any_vowel(row) {
-        return Place::Nowhere;
-    }
-    let i = place::find_tone_position(row);
-    Place::At(i)
+    place::find_tone_position(row)
 }
 
-pub fn first_step(m: InputMethod, row: &[u32], k: u32) -> Step
+pub fn first_step(z: Settings, row: &[u32], k: u32) -> Step
     requires { ⌜ length (now row) ≤ limit ⌝ }
-    ensures { λ r. ⌜ r ≡ stepOf m (rowCells (now (row .entry))) k ⌝ }
+    ensures { λ r. ⌜ r ≡ stepOf z (rowCells (now (row .entry))) k ⌝ }
 {
-    let f = tone_place(m, row, k);
+    let f = tone_place(z, row, k);
     match f {
         Place::At(i) => Step {
             change: Change::Tone,
@@ -142,7 +141,7 @@ pub fn first_step(m: InputMethod, row: &[u32], k: u32) -> Step
             mark: 0,
             count: row.len(),
         },
-        Place::Nowhere => uo_step(m, row, k),
+        Place::Nowhere => uo_step(z, row, k),
     }
 }
 
@@ -176,9 +175,9 @@ pub fn put_cell(change: Change, mark: u16, x: Cell, y: Cell, key: u32, k: u32) -
     }
 }
 
-// The cell at the other place, which is a pair's alone.
-pub fn also_cell(change: Change, p: Cell) -> Cell
-    ensures { λ r. ⌜ r ≡ alsoCell change p ⌝ }
+// The cell at the other place, where y stands. It is stored first: where the two places are one, the place's own cell stays.
+pub fn also_cell(change: Change, y: Cell) -> Cell
+    ensures { λ r. ⌜ r ≡ alsoCell change y ⌝ }
 {
     match change {
         Change::Pair => Cell {
@@ -187,9 +186,9 @@ pub fn also_cell(change: Change, p: Cell) -> Cell
             tone: 0,
             upper: false,
         },
-        Change::Nothing => p,
-        Change::Tone => p,
-        Change::Mark => p,
-        Change::Append => p,
+        Change::Nothing => y,
+        Change::Tone => y,
+        Change::Mark => y,
+        Change::Append => y,
     }
 }

@@ -1,6 +1,6 @@
 -- The tone goes to one of the syllable's vowels that are kept, or to the last cell: so what holds of each vowel's place
 -- holds of the tone's, and it is a cell's.
-use Prim.Native.Nat.{ℕ, _+_, _-_, _<_}
+use Prim.Native.Nat.{ℕ, zero, suc, _+_, _-_, _<_}
 use mathlib.Core.Path.{_≡_, refl}
 use mathlib.Core.Bool.{Bool, true, false}
 use mathlib.Core.List.{List, [], _∷_}
@@ -10,17 +10,33 @@ use lib.ListN.{length, getD, drop, length-drop}
 use lib.Seq.{getD-drop}
 use borrow.Author.Tests.{ltb-false}
 use Rattle.p0_choice.specs.Choice.{pick}
+use Rattle.p1_letters.specs.Vowels.{isVowel}
 use Rattle.p3_cells.specs.Cells.{blank}
+use Rattle.p3_cells.specs.Text.{letterOf}
 use Rattle.p3_cells.specs.declared.Cell.{Cell}
 use Rattle.p3_tone.specs.TonePlace.{anyVowel, lastSyllable, syllableStart, vowelPlaces, glides, kept, rises, chosen, placeOf}
 use Rattle.p3_tone.specs.TonePlace.{tonePlace}
-use Rattle.p3_tone.proofs.VowelPlaces.{below-at, vowels-below}
 use Rattle.p3_tone.proofs.Syllable.{last-length}
 
 module _ (P : ℕ → Type 0) where
   -- P holds at each of these places
   abbrev All : List ℕ → Type 0
   All ps = (j : ℕ) → j < length ps → P (getD ps j 0)
+
+  -- at each place of a vowel, and so at those that are listed
+  pub vowels-are : (i : ℕ) (xs : List Cell) → ((j : ℕ) → j < length xs → isVowel (letterOf (getD xs j blank)) ≡ true → P (i + j))
+      → All (vowelPlaces i xs)
+  unfolding vowelPlaces
+  vowels-are i [] f = λ k h. absurd (omega arith)
+  vowels-are i (x ∷ xs) f =
+      go (isVowel (letterOf x)) refl
+      (vowels-are (i + 1) xs (λ j l e. let d : i + suc j ≡ i + 1 + j = omega arith in rw d at (f (suc j) (omega arith) e)))
+    where
+      go : (b : Bool) → isVowel (letterOf x) ≡ b → All (vowelPlaces (i + 1) xs)
+          → All (pick b (i ∷ vowelPlaces (i + 1) xs) (vowelPlaces (i + 1) xs))
+      go true e g zero h = let d : i + 0 ≡ i = omega arith in rw d at (f 0 (omega arith) e)
+      go true e g (suc k) h = g k (omega arith)
+      go false e g k h = g k h
 
   chosen-is : (cs : List Cell) (vs : List ℕ) → 0 < length vs → All vs → P (chosen cs vs)
   unfolding chosen
@@ -75,4 +91,4 @@ tone-below cs h =
     let l = last-length cs in
     let start : ℕ = length cs - length (lastSyllable cs) in
     place-below cs (lastSyllable cs) start (vowelPlaces start (lastSyllable cs)) h
-    (below-at (length cs) (vowelPlaces start (lastSyllable cs)) (vowels-below (length cs) start (lastSyllable cs) (omega arith)))
+    (vowels-are (λ (p : ℕ). p < length cs) start (lastSyllable cs) (λ j k e. omega arith))

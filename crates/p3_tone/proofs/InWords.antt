@@ -16,26 +16,11 @@ use Rattle.p3_cells.specs.declared.Cell.{Cell}
 use Rattle.p3_cells.specs.Row.{bases}
 use Rattle.p3_cells.specs.Mirror.{rowCells}
 use Rattle.p3_tone.specs.TonePlace.{lastSyllable, syllableStart, vowelPlaces, placeOf, tonePlace}
-use Rattle.p3_tone.proofs.Bound.{place-is}
+use Rattle.p3_tone.proofs.Bound.{vowels-are, place-is}
 use Rattle.p3_tone.proofs.Same.{tone-place-same}
 use Rattle.p3_tone.proofs.Syllable.{last-drop, last-length}
 
--- ---- the places of vowels are those of vowels
-vowels-are : (P : ℕ → Type 0) (i : ℕ) (xs : List Cell) → ((j : ℕ) → j < length xs → isVowel (letterOf (getD xs j blank)) ≡ true → P (i + j))
-    → (k : ℕ) → k < length (vowelPlaces i xs) → P (getD (vowelPlaces i xs) k 0)
-unfolding vowelPlaces
-vowels-are P i [] f k h = absurd (omega arith)
-vowels-are P i (x ∷ xs) f k h =
-    go (isVowel (letterOf x)) refl k h
-    (vowels-are P (i + 1) xs (λ j l e. let d : i + suc j ≡ i + 1 + j = omega arith in rw d at (f (suc j) (omega arith) e)))
-  where
-    go : (b : Bool) → isVowel (letterOf x) ≡ b → (k : ℕ) → k < length (pick b (i ∷ vowelPlaces (i + 1) xs) (vowelPlaces (i + 1) xs))
-        → ((k : ℕ) → k < length (vowelPlaces (i + 1) xs) → P (getD (vowelPlaces (i + 1) xs) k 0))
-        → P (getD (pick b (i ∷ vowelPlaces (i + 1) xs) (vowelPlaces (i + 1) xs)) k 0)
-    go true e zero h g = let d : i + 0 ≡ i = omega arith in rw d at (f 0 (omega arith) e)
-    go true e (suc k) h g = g k (omega arith)
-    go false e k h g = g k h
-
+-- ---- where a vowel stands, there is a place
 vowels-first : (i : ℕ) (x : Cell) (xs : List Cell) → isVowel (letterOf x) ≡ true → i ∷ vowelPlaces (i + 1) xs ≡ vowelPlaces i (x ∷ xs)
 unfolding vowelPlaces
 vowels-first i x xs e = pick-true (isVowel (letterOf x)) _ _ _ e refl
@@ -68,12 +53,14 @@ in-syllable : (cs : List Cell) (j : ℕ) → j < length (lastSyllable cs) → is
 in-syllable cs j l v =
     let n = syllable-end cs in record { from = omega arith; below = omega arith; vowel = rw (syllable-at cs j) at v }
 
+pub places-are : (cs : List Cell) (k : ℕ) → k < length (vowelPlaces (syllableStart cs) (lastSyllable cs))
+    → SyllableVowel cs (getD (vowelPlaces (syllableStart cs) (lastSyllable cs)) k 0)
+places-are cs = vowels-are (SyllableVowel cs) (syllableStart cs) (lastSyllable cs) (in-syllable cs)
+
 -- ---- "With no vowel in it, the composition's last cell takes the tone."
 pub tone-last : (cs : List Cell) → ((i : ℕ) → SyllableVowel cs i → ⊥) → tonePlace cs ≡ length cs - 1
 unfolding tonePlace placeOf
-tone-last cs f =
-    go (vowelPlaces (syllableStart cs) (lastSyllable cs))
-    (vowels-are (SyllableVowel cs) (syllableStart cs) (lastSyllable cs) (in-syllable cs))
+tone-last cs f = go (vowelPlaces (syllableStart cs) (lastSyllable cs)) (places-are cs)
   where
     go : (vs : List ℕ) → ((k : ℕ) → k < length vs → SyllableVowel cs (getD vs k 0))
         → placeOf cs (syllableStart cs) (lastSyllable cs) vs ≡ length cs - 1
@@ -91,8 +78,7 @@ tone-vowel cs i s =
     let v : isVowel (letterOf (getD (lastSyllable cs) (i - syllableStart cs) blank)) ≡ true =
     rw (syllable-at cs (i - syllableStart cs), d) (s .vowel) in
     place-is (SyllableVowel cs) cs (lastSyllable cs) (syllableStart cs) (vowelPlaces (syllableStart cs) (lastSyllable cs))
-    (vowels-some (syllableStart cs) (lastSyllable cs) (i - syllableStart cs) (omega arith) v)
-    (vowels-are (SyllableVowel cs) (syllableStart cs) (lastSyllable cs) (in-syllable cs))
+    (vowels-some (syllableStart cs) (lastSyllable cs) (i - syllableStart cs) (omega arith) v) (places-are cs)
 
 -- ---- cells with the same bases take it at the same place
 pub tone-by-bases : (cs ds : List Cell) → each isCell cs ≡ true → each isCell ds ≡ true → bases cs ≡ bases ds → tonePlace cs ≡ tonePlace ds

@@ -11,7 +11,7 @@ use Rattle.p0_choice.specs.Choice.{pick}
 use Rattle.p3_cells.specs.Cells.{blank}
 use Rattle.p3_cells.specs.declared.Cell.{Cell}
 use Rattle.p3_tone.specs.TonePlace.{separates, anySeparates, lastSyllable}
-use Rattle.p3_tone.proofs.Syllable.{neither, whole}
+use Rattle.p3_tone.proofs.Syllable.{neither, either, whole}
 
 -- cells that end in a separator
 pub record EndInSeparator (before : List Cell) : Type 0 where
@@ -84,11 +84,7 @@ last-follows (x ∷ xs) = go (anySeparates xs) refl (separates x) refl (last-fol
 any-in : (b s : List Cell) (x : Cell) → separates x ≡ true → anySeparates ((b ++ (x ∷ [])) ++ s) ≡ true
 unfolding anySeparates
 any-in [] s x e = rw e refl
-any-in (y ∷ b) s x e = go (separates y) (any-in b s x e)
-  where
-    go : (t : Bool) → anySeparates ((b ++ (x ∷ [])) ++ s) ≡ true → pick t true (anySeparates ((b ++ (x ∷ [])) ++ s)) ≡ true
-    go true h = refl
-    go false h = h
+any-in (y ∷ b) s x e = either (separates y) (anySeparates ((b ++ (x ∷ [])) ++ s)) (any-in b s x e)
 
 after : (b s : List Cell) (x : Cell) → separates x ≡ true → anySeparates s ≡ false → lastSyllable ((b ++ (x ∷ [])) ++ s) ≡ s
 unfolding lastSyllable

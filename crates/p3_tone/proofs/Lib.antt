@@ -2,9 +2,8 @@ pub mod Vowels
 pub mod Syllable
 pub mod LastSyllable
 pub mod Pairs
-pub mod VowelPlaces
-pub mod TonePlace
 pub mod Same
 pub mod Bound
 pub mod InWords
+pub mod TonePlace
 pub mod Only

@@ -25,15 +25,15 @@ pub neither : (a b : Bool) → pick a true b ≡ false → (a ≡ false) × (b �
 neither true b e = let z : _≡_ {A = ℕ} 0 1 = cc in absurd (omega arith)
 neither false b e = (refl, e)
 
+pub either : (a b : Bool) → b ≡ true → pick a true b ≡ true
+either true b e = refl
+either false b e = e
+
 any-at : (cs : List Cell) (i : ℕ) → i < length cs → separates (getD cs i blank) ≡ true → anySeparates cs ≡ true
 unfolding anySeparates
 any-at [] i h e = absurd (omega arith)
 any-at (x ∷ xs) zero h e = rw e refl
-any-at (x ∷ xs) (suc i) h e = go (separates x) (any-at xs i (omega arith) e)
-  where
-    go : (b : Bool) → anySeparates xs ≡ true → pick b true (anySeparates xs) ≡ true
-    go true q = refl
-    go false q = q
+any-at (x ∷ xs) (suc i) h e = either (separates x) (anySeparates xs) (any-at xs i (omega arith) e)
 
 after-last : (cs : List Cell) (i : ℕ) → i < length cs → separates (getD cs i blank) ≡ true → anySeparates (drop (suc i) cs) ≡ false
     → lastSyllable cs ≡ drop (suc i) cs
@@ -78,8 +78,8 @@ module _ (row : List ℕ) (i : ℕ) (e : anySeparates (drop i (rowCells row)) �
         let l : i - 1 < length row = omega arith in
         rw (none-turn row (i - 1) l, ← separates-bare (getD row (i - 1) 0), ← q, t, d) e
 
-  pub start-whole : i ≤ 0 → 0 ≡ syllableStart (rowCells row)
-  start-whole z = let d : i ≡ 0 = omega arith in started row 0 (omega arith) (whole (rowCells row) (rw d at e))
+  pub start-whole : i ≤ 0 → i ≡ syllableStart (rowCells row)
+  start-whole z = let d : i ≡ 0 = omega arith in rw d (started row 0 (omega arith) (whole (rowCells row) (rw d at e)))
 
 -- the syllable is what stands from its start on
 pub last-length : (cs : List Cell) → length (lastSyllable cs) ≤ length cs

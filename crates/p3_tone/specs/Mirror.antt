@@ -1,8 +1,17 @@
 -- How the code holds things: no sentence of document 01 stands here, and no promise to a host leads here.
--- Places that lie in the row: each of them is below n.
-use Prim.Native.Nat.{ℕ, _<_}
+use Prim.Native.Nat.{ℕ, _-_}
 use mathlib.Core.List.{List}
 use lib.ListN.{length, getD}
+use Rattle.p3_tone.specs.declared.Seen.{Seen}
 
-unfoldable pub Below : ℕ → List ℕ → Type 0
-Below n ps = (j : ℕ) → j < length ps → getD ps j 0 < n
+-- what the code keeps of the places of vowels
+unfoldable pub seenOf : List ℕ → Seen
+seenOf vs =
+    record {
+      count = length vs;
+      first = getD vs 0 0;
+      second = getD vs 1 0;
+      third = getD vs 2 0;
+      before = getD vs (length vs - 2) 0;
+      last = getD vs (length vs - 1) 0;
+    }

@@ -89,10 +89,10 @@ module _ (cs : List Cell) (raw : List ℕ) (t : ℕ) where
 
 -- ---- the places found are in use, and so in the array
 module _ (c : Composition) (raw : List ℕ) (t : ℕ) (u : Undoing) (s : isSound c ≡ true)
-    (f : u ≡ toUndo (c .method) (used c) raw t) where
+    (f : u ≡ toUndo (c .settings .method) (used c) raw t) where
   fine : Fine (c .count) u
   fine =
-      let k : Fine (length (used c)) u = rw f (undo-fine (used c) raw t (c .method)) in
+      let k : Fine (length (used c)) u = rw f (undo-fine (used c) raw t (c .settings .method)) in
       rw (used-length c s) at k
 
   pub tone-in-use : (i : ℕ) → u ≡ Tone i → i < c .count

@@ -18,7 +18,7 @@ use Rattle.p3_cells.specs.declared.Composition.{Composition}
 use Rattle.p0_choice.proofs.Tests.{both-are, each-at, each-set}
 use Rattle.p3_cells.proofs.Soundness.{cell-is, is-cell}
 use Rattle.p3_cells.proofs.Made.{toneless-cell}
-use Rattle.p3_cells.proofs.Holding.{count-fits, used-length, used-cells, holding-sound}
+use Rattle.p3_cells.proofs.Holding.{count-fits, used-length, used-cells, composed-sound}
 use Rattle.p3_undo.specs.Raw.{rawLowered}
 use Rattle.p3_undo.specs.Undo.{toUndo, toneLost, restored, undone}
 use Rattle.p3_undo.specs.Call.{notUndone, undoFound, undoTelex}
@@ -44,7 +44,7 @@ module _ (c : Composition) (s : isSound c ≡ true) where
       let u = used-length c s in
       let h = count-fits c s in
       let m : length (set (used c) i (f (getD (used c) i blank))) ≤ limit = rw length-set (omega arith) in
-      holding-sound c (set (used c) i (f (getD (used c) i blank))) m
+      composed-sound _ (set (used c) i (f (getD (used c) i blank))) m
       (each-set isCell (used c) i (f (getD (used c) i blank)) (used-cells c s)
       (g (getD (used c) i blank) (each-at isCell blank (used c) (used-cells c s) i l)))
 
@@ -58,10 +58,10 @@ module _ (c : Composition) (s : isSound c ≡ true) where
   unfolding undoTelex
   undo-sound k raw =
       go (isSound c) (ltb letterLimit (length raw)) (inAlphabet k) (allLetters raw)
-      (found-sound u (undo-fine (used c) (rawLowered raw) (asciiLower k) (c .method)))
+      (found-sound u (undo-fine (used c) (rawLowered raw) (asciiLower k) (c .settings .method)))
     where
       u : Undoing
-      u = toUndo (c .method) (used c) (rawLowered raw) (asciiLower k)
+      u = toUndo (c .settings .method) (used c) (rawLowered raw) (asciiLower k)
 
       go : (a b d e : Bool) → isSound (undoFound c u .comp) ≡ true
           → isSound (pick a (pick b (notUndone c Long) (pick d (pick e (undoFound c u) (notUndone c Foreign)) (notUndone c Foreign)))

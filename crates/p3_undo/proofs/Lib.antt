@@ -1,5 +1,6 @@
 pub mod Raw
 pub mod Last
+pub mod Signs
 pub mod Undo
 pub mod Found
 pub mod Call

@@ -16,17 +16,17 @@ use Rattle.p2_input_method.specs.Mirror.{noRule}
 use Rattle.p2_input_method.specs.declared.InputMethod.{InputMethod}
 use Rattle.p2_input_method.specs.declared.InputMethod.the-variants.{Telex, Vni}
 use Rattle.p2_input_method.specs.declared.MarkRule.{MarkRule}
-use Rattle.p3_cells.specs.Cells.{limit, blank, used}
+use Rattle.p3_cells.specs.Cells.{blank}
 use Rattle.p3_cells.specs.Place.{placeOr}
 use Rattle.p3_cells.specs.declared.Cell.{Cell}
-use Rattle.p3_cells.specs.declared.Composition.{Composition}
-use Rattle.p3_cells.proofs.Holding.{used-count, used-at}
+use Rattle.p3_undo.specs.Mirror.{bearing, signCells}
 use Rattle.p3_undo.specs.Raw.{endsIn, active}
 use Rattle.p3_undo.specs.Undo.{lastWith, hasTone, hasMark, ruleAt, byRules, toneAt, toUndo, toneLost, restored}
 use Rattle.p3_cells.specs.declared.Place.{Place}
 use Rattle.p3_cells.specs.declared.Place.the-variants.{Nowhere, At}
 use Rattle.p3_undo.specs.declared.Undoing.{Undoing}
 use Rattle.p3_undo.specs.declared.Undoing.the-variants.{Nothing, Tone, Mark}
+use Rattle.p3_undo.proofs.Signs.{row-length, row-at}
 
 -- ---- a cell
 pub toneless-is : (x : Cell) → record { base = x .base; mark = x .mark; tone = 0; upper = x .upper } ≡ toneLost x
@@ -48,44 +48,42 @@ restored-capital a b x h e =
     (pick-true (x .upper) b (asciiUpper a) a (not-false (x .upper) h) e)
 
 -- ---- the last cell that passes a test
-module _ (p : Cell → Bool) (c : Composition) (s : Place) (i : ℕ) (e : s ≡ lastWith p (used c) i) where
+module _ (p : Cell → Bool) (row : List ℕ) (s : Place) (i : ℕ) (e : s ≡ lastWith p (signCells row) i) where
   pub with-none : i ≤ 0 → Nowhere ≡ s
   unfolding lastWith
   with-none l = let z : i ≡ 0 = omega arith in sym (e ∙ rw z refl)
 
-  module _ (x : Cell) (v : Bool) (h : 0 < i) (k : i ≤ c .count) (f : x ≡ getD (c .cells) (i - 1) blank) (q : v ≡ p x) where
-    with-turn : s ≡ pick v (At (i - 1)) (lastWith p (used c) (i - 1))
+  module _ (v : Bool) (h : 0 < i) (q : v ≡ p (bearing (getD row (i - 1) 0))) where
+    with-turn : s ≡ pick v (At (i - 1)) (lastWith p (signCells row) (i - 1))
     unfolding lastWith
-    with-turn =
-        let g : v ≡ p (getD (used c) (i - 1) blank) = q ∙ ap p (f ∙ sym (used-at c (i - 1) (omega arith))) in
-        e ∙ go i h ∙ ap (λ (b : Bool). pick b (At (i - 1)) (lastWith p (used c) (i - 1))) (sym g)
+    with-turn = e ∙ go i h ∙ rw (row-at row (i - 1), ← q) refl
       where
-        go : (i : ℕ) → 0 < i → lastWith p (used c) i ≡ pick (p (getD (used c) (i - 1) blank)) (At (i - 1)) (lastWith p (used c) (i - 1))
+        go : (i : ℕ) → 0 < i
+            → lastWith p (signCells row) i ≡ pick (p (getD (signCells row) (i - 1) blank)) (At (i - 1)) (lastWith p (signCells row) (i - 1))
         go zero h = absurd (omega arith)
         go (suc i) h = let x : suc i - 1 ≡ i = omega arith in rw x refl
 
     pub with-found : v ≡ true → At (i - 1) ≡ s
     with-found t = sym (with-turn ∙ rw t refl)
 
-    pub with-on : v ≡ false → s ≡ lastWith p (used c) (i - 1)
+    pub with-on : v ≡ false → s ≡ lastWith p (signCells row) (i - 1)
     with-on t = with-turn ∙ rw t refl
 
 -- ---- the rules
-module _ (c : Composition) (raw : List ℕ) (t : ℕ) (r : MarkRule) where
-  pub rule-key : (r .key ≡ t → ⊥) → Nowhere ≡ ruleAt (used c) raw t r
+module _ (row raw : List ℕ) (t : ℕ) (r : MarkRule) where
+  pub rule-key : (r .key ≡ t → ⊥) → Nowhere ≡ ruleAt (signCells row) raw t r
   unfolding ruleAt
   rule-key h = rw (ne-eqb (r .key) t h) refl
 
   module _ (v : Bool) (h : r .key ≡ t) (e : v ≡ active raw (r .first) (r .key)) where
-    pub rule-idle : not v ≡ true → Nowhere ≡ ruleAt (used c) raw t r
+    pub rule-idle : not v ≡ true → Nowhere ≡ ruleAt (signCells row) raw t r
     unfolding ruleAt
     rule-idle q = rw (eq-eqb (r .key) t h, ← e, not-true v q) refl
 
-    pub rule-last : (p : Place) → not v ≡ false → p ≡ lastWith (hasMark (r .result)) (used c) (c .count) → c .count ≤ limit
-        → length (c .cells) ≡ limit
-        → p ≡ ruleAt (used c) raw t r
+    pub rule-last : (p : Place) → not v ≡ false → p ≡ lastWith (hasMark (r .result)) (signCells row) (length row)
+        → p ≡ ruleAt (signCells row) raw t r
     unfolding ruleAt
-    rule-last p q f l n = rw (eq-eqb (r .key) t h, ← e, not-false v q, used-count c (omega arith)) f
+    rule-last p q f = rw (eq-eqb (r .key) t h, ← e, not-false v q, row-length row) f
 
 module _ (cs : List Cell) (raw : List ℕ) (t : ℕ) (s : Undoing) (i : ℕ) (e : s ≡ byRules cs raw t (drop i (markRules Telex))) where
   pub rules-none : 7 ≤ i → Nothing ≡ s
@@ -104,15 +102,14 @@ module _ (cs : List Cell) (raw : List ℕ) (t : ℕ) (s : Undoing) (i : ℕ) (e 
     rules-on h = rules-turn ∙ rw h refl
 
 -- ---- the tone
-module _ (c : Composition) (raw : List ℕ) (t : ℕ) (v : Bool) (e : v ≡ endsIn raw t) where
-  pub tone-no : not v ≡ true → Nowhere ≡ toneAt (used c) raw t
+module _ (row raw : List ℕ) (t : ℕ) (v : Bool) (e : v ≡ endsIn raw t) where
+  pub tone-no : not v ≡ true → Nowhere ≡ toneAt (signCells row) raw t
   unfolding toneAt
   tone-no q = rw (← e, not-true v q) refl
 
-  pub tone-last : (p : Place) → not v ≡ false → p ≡ lastWith (hasTone t) (used c) (c .count) → c .count ≤ limit → length (c .cells) ≡ limit
-      → p ≡ toneAt (used c) raw t
+  pub tone-last : (p : Place) → not v ≡ false → p ≡ lastWith (hasTone t) (signCells row) (length row) → p ≡ toneAt (signCells row) raw t
   unfolding toneAt
-  tone-last p q f l n = rw (← e, not-false v q, used-count c (omega arith)) f
+  tone-last p q f = rw (← e, not-false v q, row-length row) f
 
 -- ---- first the tone, then the rules
 pub undo-vni : (m : InputMethod) (cs : List Cell) (raw : List ℕ) (t : ℕ) → m ≡ Vni → Nothing ≡ toUndo m cs raw t

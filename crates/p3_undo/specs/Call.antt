@@ -46,6 +46,7 @@ undoTelex c trigger raw =
     pick (isSound c)
     (pick (ltb letterLimit (length raw)) (notUndone c Long)
     (pick (inAlphabet trigger)
-    (pick (allLetters raw) (undoFound c (toUndo (c .method) (used c) (rawLowered raw) (asciiLower trigger))) (notUndone c Foreign))
+    (pick (allLetters raw) (undoFound c (toUndo (c .settings .method) (used c) (rawLowered raw) (asciiLower trigger)))
+    (notUndone c Foreign))
     (notUndone c Foreign)))
     (notUndone c Unsound)

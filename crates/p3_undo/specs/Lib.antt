@@ -1,3 +1,4 @@
 pub mod Raw
 pub mod Undo
 pub mod Call
+pub mod Mirror

@@ -1,5 +1,5 @@
 // Undo of the last Telex step (bamboo.rs, undo_telex_transform): what is to be undone is found first, as a small answer,
-// and stored at one place.
+// in a lent row of the cells' signs, and stored at one place.
 ghost use mathlib.Core.Path.{_≡_};
 ghost use mathlib.Core.Bool.{true};
 ghost use Prim.Native.Nat.{_<_, _≤_, _+_};
@@ -8,10 +8,11 @@ ghost use Rattle.p0_choice.specs.Choice.{among};
 ghost use Rattle.p0_choice.specs.Text.{word};
 ghost use Rattle.p2_input_method.specs.Rules.{markRules};
 ghost use Rattle.p2_input_method.specs.declared.InputMethod.the-variants.{Telex};
-ghost use Rattle.p3_cells.specs.Cells.{limit, isSound, used};
+ghost use Rattle.p3_cells.specs.Cells.{isSound, used};
 ghost use Rattle.p3_undo.specs.Raw.{rawLowered, endsIn, pairAt, lastEnd, anyPlain, active};
 ghost use Rattle.p3_undo.specs.Undo.{lastWith, hasTone, hasMark, ruleAt, byRules, toneAt, toUndo, toneLost as tonelessOf};
 ghost use Rattle.p3_undo.specs.Undo.{restored as restoredOf};
+ghost use Rattle.p3_undo.specs.Mirror.{sign as signOf, bearing, signCells};
 ghost use Rattle.p3_undo.specs.Call.{behaviour as behaviourOf, notUndone, undoFound, undoTelex};
 use p0_refusals::LETTERS;
 use p0_refusals::Refusal;
@@ -22,6 +23,7 @@ use p2_input_method::MarkRule;
 use p3_cells as cells;
 use p3_cells::Cell;
 use p3_cells::Composition;
+use p3_cells::LIMIT;
 use p3_cells::Place;
 
 // What becomes of the trigger, or why nothing was undone.
@@ -120,50 +122,52 @@ fn has_active_mark_pattern(raw: &[u32], a: u32, t: u32) -> bool
     !any_plain(raw, e)
 }
 
-// ---- the cells
+// ---- the cells: what undo asks of them, as a row of their signs
 
-fn has_tone(t: u32, x: Cell) -> bool
-    ensures { λ r. ⌜ r ≡ hasTone t x ⌝ }
+pub fn sign(x: Cell) -> u32
+    ensures { λ r. ⌜ r ≡ signOf x ⌝ }
+{
+    (x.mark as u32) + (x.tone as u32) * 65536
+}
+
+fn has_tone(t: u32, s: u32) -> bool
+    ensures { λ r. ⌜ r ≡ hasTone t (bearing s) ⌝ }
 {
     if t == 0 {
         return false;
     }
-    x.tone as u32 == t
+    s / 65536 == t
 }
 
-fn has_mark(m: u16, x: Cell) -> bool
-    ensures { λ r. ⌜ r ≡ hasMark m x ⌝ }
+fn has_mark(m: u16, s: u32) -> bool
+    ensures { λ r. ⌜ r ≡ hasMark m (bearing s) ⌝ }
 {
-    if x.mark != m {
+    if s % 65536 != m as u32 {
         return false;
     }
-    x.tone == 0
+    s / 65536 == 0
 }
 
-fn last_toned(c: Composition, t: u32) -> Place
-    requires { ⌜ c .count ≤ limit ⌝ }
-    ensures { λ r. ⌜ r ≡ lastWith (hasTone t) (used c) (c .count) ⌝ }
+fn last_toned(row: &[u32], t: u32) -> Place
+    ensures { λ r. ⌜ r ≡ lastWith (hasTone t) (signCells (now (row .entry))) (length (now (row .entry))) ⌝ }
 {
-    let mut i = c.count;
+    let mut i = row.len();
     while 0 < i {
         i -= 1;
-        let x = c.cells[i];
-        if has_tone(t, x) {
+        if has_tone(t, row[i]) {
             return Place::At(i);
         }
     }
     Place::Nowhere
 }
 
-fn last_marked(c: Composition, m: u16) -> Place
-    requires { ⌜ c .count ≤ limit ⌝ }
-    ensures { λ r. ⌜ r ≡ lastWith (hasMark m) (used c) (c .count) ⌝ }
+fn last_marked(row: &[u32], m: u16) -> Place
+    ensures { λ r. ⌜ r ≡ lastWith (hasMark m) (signCells (now (row .entry))) (length (now (row .entry))) ⌝ }
 {
-    let mut i = c.count;
+    let mut i = row.len();
     while 0 < i {
         i -= 1;
-        let x = c.cells[i];
-        if has_mark(m, x) {
+        if has_mark(m, row[i]) {
             return Place::At(i);
         }
     }
@@ -172,9 +176,8 @@ fn last_marked(c: Composition, m: u16) -> Place
 
 // ---- what is to be undone
 
-fn rule_at(c: Composition, raw: &[u32], t: u32, r: MarkRule) -> Place
-    requires { ⌜ c .count ≤ limit ⌝ }
-    ensures { λ p. ⌜ p ≡ ruleAt (used c) (rawLowered (now (raw .entry))) t r ⌝ }
+fn rule_at(row: &[u32], raw: &[u32], t: u32, r: MarkRule) -> Place
+    ensures { λ p. ⌜ p ≡ ruleAt (signCells (now (row .entry))) (rawLowered (now (raw .entry))) t r ⌝ }
 {
     if r.key != t {
         return Place::Nowhere;
@@ -182,17 +185,16 @@ fn rule_at(c: Composition, raw: &[u32], t: u32, r: MarkRule) -> Place
     if !has_active_mark_pattern(raw, r.first, r.key) {
         return Place::Nowhere;
     }
-    last_marked(c, r.result)
+    last_marked(row, r.result)
 }
 
-fn by_rules(c: Composition, raw: &[u32], t: u32) -> Undoing
-    requires { ⌜ c .count ≤ limit ⌝ }
-    ensures { λ r. ⌜ r ≡ byRules (used c) (rawLowered (now (raw .entry))) t (markRules Telex) ⌝ }
+fn by_rules(row: &[u32], raw: &[u32], t: u32) -> Undoing
+    ensures { λ r. ⌜ r ≡ byRules (signCells (now (row .entry))) (rawLowered (now (raw .entry))) t (markRules Telex) ⌝ }
 {
     let mut i: usize = 0;
     while i < input_method::TELEX_RULES {
         let r = input_method::telex_rule(i);
-        let p = rule_at(c, raw, t, r);
+        let p = rule_at(row, raw, t, r);
         if let Place::At(j) = p {
             return Undoing::Mark(j, r);
         }
@@ -201,34 +203,32 @@ fn by_rules(c: Composition, raw: &[u32], t: u32) -> Undoing
     Undoing::Nothing
 }
 
-fn tone_at(c: Composition, raw: &[u32], t: u32) -> Place
-    requires { ⌜ c .count ≤ limit ⌝ }
-    ensures { λ r. ⌜ r ≡ toneAt (used c) (rawLowered (now (raw .entry))) t ⌝ }
+fn tone_at(row: &[u32], raw: &[u32], t: u32) -> Place
+    ensures { λ r. ⌜ r ≡ toneAt (signCells (now (row .entry))) (rawLowered (now (raw .entry))) t ⌝ }
 {
     if !ends_in(raw, t) {
         return Place::Nowhere;
     }
-    last_toned(c, t)
+    last_toned(row, t)
 }
 
-fn to_undo(c: Composition, raw: &[u32], t: u32) -> Undoing
-    requires { ⌜ c .count ≤ limit ⌝ }
-    ensures { λ r. ⌜ r ≡ toUndo (c .method) (used c) (rawLowered (now (raw .entry))) t ⌝ }
+// Over the signs of the cells in use, which a caller fills in from where it holds them.
+pub fn to_undo(m: InputMethod, row: &[u32], raw: &[u32], t: u32) -> Undoing
+    ensures { λ r. ⌜ r ≡ toUndo m (signCells (now (row .entry))) (rawLowered (now (raw .entry))) t ⌝ }
 {
-    let m = c.method;
     if let InputMethod::Vni = m {
         return Undoing::Nothing;
     }
-    let p = tone_at(c, raw, t);
+    let p = tone_at(row, raw, t);
     if let Place::At(i) = p {
         return Undoing::Tone(i);
     }
-    by_rules(c, raw, t)
+    by_rules(row, raw, t)
 }
 
 // ---- the call
 
-fn tone_lost(x: Cell) -> Cell
+pub fn tone_lost(x: Cell) -> Cell
     ensures { λ r. ⌜ r ≡ tonelessOf x ⌝ }
 {
     Cell {
@@ -239,7 +239,7 @@ fn tone_lost(x: Cell) -> Cell
     }
 }
 
-fn restored(a: u32, x: Cell) -> Cell
+pub fn restored(a: u32, x: Cell) -> Cell
     ensures { λ r. ⌜ r ≡ restoredOf a x ⌝ }
 {
     if !x.upper {
@@ -260,24 +260,41 @@ fn restored(a: u32, x: Cell) -> Cell
 }
 
 // dd consumes its trigger, the others append it.
-fn behaviour(r: MarkRule) -> TelexUndo
-    ensures { λ a. ⌜ a ≡ behaviourOf r ⌝ }
+pub fn behaviour(rule: MarkRule) -> TelexUndo
+    ensures { λ r. ⌜ r ≡ behaviourOf rule ⌝ }
 {
-    if r.first != 100 {
+    if rule.first != 100 {
         return TelexUndo::AppendTrigger;
     }
-    if r.key != 100 {
+    if rule.key != 100 {
         return TelexUndo::AppendTrigger;
     }
     TelexUndo::ConsumeTrigger
 }
 
+fn find(c: Composition, raw: &[u32], t: u32) -> Undoing
+    requires { ⌜ isSound c ≡ true ⌝ }
+    ensures { λ r. ⌜ r ≡ toUndo (c .settings .method) (used c) (rawLowered (now (raw .entry))) t ⌝ }
+{
+    let n = c.count;
+    let mut row = [0u32; LIMIT];
+    let mut at: usize = 0;
+    while at < n {
+        let x = c.cells[at];
+        row[at] = sign(x);
+        at += 1;
+    }
+    let z = c.settings;
+    let m = z.method;
+    to_undo(m, &row[0..n], raw, t)
+}
+
 // Stores what is found.
 fn undo_found(mut c: Composition, raw: &[u32], t: u32) -> Undone
     requires { ⌜ isSound c ≡ true ⌝ }
-    ensures { λ r. ⌜ r ≡ undoFound c (toUndo (c .method) (used c) (rawLowered (now (raw .entry))) t) ⌝ }
+    ensures { λ r. ⌜ r ≡ undoFound c (toUndo (c .settings .method) (used c) (rawLowered (now (raw .entry))) t) ⌝ }
 {
-    let u = to_undo(c, raw, t);
+    let u = find(c, raw, t);
     match u {
         Undoing::Nothing => Undone {
             comp: c,

@@ -59,8 +59,7 @@ keyed (a ∷ b ∷ c ∷ []) = keyed-three a b c
 keyed (a ∷ b ∷ c ∷ d ∷ w) =
     none
     (rw (
-      ne-eqb (length (a ∷ b ∷ c ∷ d ∷ w)) 0
-          (λ (e : length (a ∷ b ∷ c ∷ d ∷ w) ≡ 0). omega arith),
+      ne-eqb (length (a ∷ b ∷ c ∷ d ∷ w)) 0 (λ (e : length (a ∷ b ∷ c ∷ d ∷ w) ≡ 0). omega arith),
       lt-ltb 3 (length (a ∷ b ∷ c ∷ d ∷ w)) (omega arith),
     ))
 

@@ -16,21 +16,13 @@ use Rattle.p0_refusals.proofs.Answers.{refuses-answer, refuses-output, short-an
 use Rattle.p1_letters.specs.Alphabet.{allLetters}
 use Rattle.p4_rows.specs.Rows.{Word}
 use Rattle.p5_trie.specs.Mirror.{Trie, trieSize, nth, upTo}
-use Rattle.p5_trie.specs.Numbering.{Many}
 use Rattle.p5_trie.proofs.Numbering as Tries
-use Rattle.p5_listing.specs.Listed.{Listed}
-use Rattle.p5_listing.specs.Mirror.{listing}
-use Rattle.p5_listing.specs.Counts.{wordCount}
 use Rattle.p4_spelling.specs.Verdict.{longestLength}
-use Rattle.p5_listing.proofs.Numbering.{numbering}
 use Rattle.p5_lister.specs.Meaning.{NumberMeans, word, none, Permitted, NextMeans, long, foreign, last, next}
 
 -- answer and output are those of something that means what is asked
 abbrev pub Answers : (Outcome → Type 0) → List ℕ → Answer → List ℕ → Type 0
 Answers Means o r out = (u : Outcome) × Means u × (r ≡ answer u (length o)) × (out ≡ output u o)
-
-pub listed-many : Many Listed wordCount
-listed-many = (nth listing, numbering)
 
 -- ---- give: the first len letters of l, with room for them or not
 module _ (o l : List ℕ) (len : ℕ) (eight : length l ≡ longestLength) (small : len ≤ longestLength) (r : Answer) (out : List ℕ) where
@@ -55,7 +47,7 @@ module _ {P : Word → Type 0} {t : Trie} (l : Tries.Lists P t) (o : List ℕ) (
     pub beyond : trieSize t ≤ n → r ≡ Refused NoWord → out ≡ o → Answers (NumberMeans P n) o r out
     beyond h e f = (
       refuses NoWord,
-      none (record { total = trieSize t; many = (nth t, Tries.numbering l); past = h }) refl,
+      none (record { total = trieSize t; many = Tries.many l (trieSize t) refl; past = h }) refl,
       e ∙ refuses-answer _ _ refl (length o),
       f ∙ refuses-output _ _ refl o,
     )

@@ -1,14 +1,15 @@
 -- What the functions read of a node, by its entry t: x is its letter, n how many words go through it, and so on.
 use Prim.Native.Nat.{ℕ, _+_, _-_, _≤_, _<_}
 use mathlib.Core.Path.{_≡_, ap, _∙_}
+use mathlib.Core.List.{List}
 use mathlib.Core.Logic.{_⊎_, inl, inr, ⊎-elim}
 use native.Mathlib.Omega.{arith}
 use Rattle.p4_spelling.specs.Verdict.{longestLength}
-use Rattle.p5_trie.specs.Mirror.{trieSize, trieAt}
+use Rattle.p5_trie.specs.Mirror.{Trie, trieSize, trieAt, nth}
 use Rattle.p5_trie.proofs.Tests.{depth}
 use Rattle.p5_trie.proofs.Scan.{Passed, Halts, went-on}
 use Rattle.p5_listing.specs.Counts.{wordCount}
-use Rattle.p5_listing.specs.Mirror.{nodeCount, rootNode, entryAt, letterIn, wordsIn, lastIn, nodes}
+use Rattle.p5_listing.specs.Mirror.{nodeCount, rootNode, entryAt, letterIn, wordsIn, lastIn, nodes, listing}
 use Rattle.p5_listing.proofs.Computed.{size-listing, depth-listing}
 use Rattle.p5_listing.proofs.Nodes.{root, count-is, sound, letter-low, letter-is, words-is, next-none, next-on}
 
@@ -40,3 +41,6 @@ root-size = ap trieSize root ∙ size-listing
 
 pub root-depth : depth (trieAt nodes rootNode) ≡ longestLength
 root-depth = ap depth root ∙ depth-listing
+
+pub root-word : (m n : ℕ) (u : List ℕ) → u ≡ nth (trieAt nodes rootNode) m → m ≡ n → u ≡ nth listing n
+root-word m n u e f = e ∙ ap (λ (t : Trie). nth t m) root ∙ ap (nth listing) f

@@ -76,8 +76,7 @@ not-astray w t e h = go (quickForeign (word "fjwz") w) (quick-foreign w ∙ e) h
       quick-end w t,
       quick-rest w t,
       same-self (take (onsetEnd w) w),
-      same-self
-          (take (vowelRun (drop (onsetEnd w) w)) (drop (onsetEnd w) w)),
+      same-self (take (vowelRun (drop (onsetEnd w) w)) (drop (onsetEnd w) w)),
     )
 
     go : (b : Bool) → b ≡ false

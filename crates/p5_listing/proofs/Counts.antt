@@ -17,16 +17,15 @@ use Rattle.p4_rows.proofs.Words.{each-in}
 use Rattle.p4_spelling.specs.Cut.{beforeVowel, vowelRun, isGlue, startsGlued, onsetEnd, onsetOf, vowelsOf}
 use Rattle.p4_spelling.specs.Verdict.{verdict, longestLength}
 use Rattle.p4_spelling.proofs.Folding.{too-long}
-use Rattle.p5_trie.specs.Mirror.{Trie, trieSize, nth, grow, trieAt}
+use Rattle.p5_trie.specs.Mirror.{Trie, trieSize, grow, trieAt}
 use Rattle.p5_trie.proofs.Tests.{inTrie}
-use Rattle.p5_trie.proofs.Numbering as Tries
-use Rattle.p5_trie.proofs.Kept.{keptIn, kept-lists}
+use Rattle.p5_trie.proofs.Kept.{keptIn, kept-many}
 use Rattle.p5_listing.specs.Listed.{Listed}
-use Rattle.p5_listing.specs.Counts.{isBareOnset, isWithoutOnset, hasBoth, ManyListed, Counts}
+use Rattle.p5_listing.specs.Counts.{isBareOnset, isWithoutOnset, hasBoth, Counts}
 use Rattle.p5_listing.specs.Mirror.{entries, entryAt, nextTo, nodeIn, nodes, listing}
 use Rattle.p5_listing.proofs.Plain.{Toneless, plain-toneless}
 use Rattle.p5_listing.proofs.Quick.{quickAmong, quick-vowel}
-use Rattle.p5_listing.proofs.Numbering.{lists, numbering}
+use Rattle.p5_listing.proofs.Numbering.{lists, listed-many}
 
 -- ---- the kinds in a form that antt computes fast: a bare onset has no vowel, and a word without onset starts with one
 unfoldable quickBare : List ℕ → Word → Bool
@@ -156,12 +155,6 @@ both-is u t = go (quickBare vowels u) (quickWithout vowels u) (kinds u t .bare-i
 toneless : (u : Word) → Listed u → Toneless u
 toneless u l = subst Toneless (l .isPlain) (plain-toneless u)
 
-many : (quick f : Word → Bool) (n : ℕ) → ((u : Word) → Toneless u → quick u ≡ f u) → trieSize (keptIn quick listing) ≡ n → ManyListed f n
-many quick f n same count =
-    let l : Tries.Lists (λ (u : Word). Listed u × T (f u)) (keptIn quick listing) =
-    kept-lists quick lists (λ u p t. (p, rw (same u (toneless u p)) at t)) (λ u q. (q .0, rw (same u (toneless u (q .0))) (q .1))) in
-    (nth (keptIn quick listing), rw count at (Tries.numbering l))
-
 -- ---- the longest
 longest : Word
 longest = word "nghuyêng"
@@ -174,20 +167,20 @@ eight-letters : length longest ≡ longestLength
 unfolding longest word
 eight-letters = refl
 
-none-longer : (u : Word) → Listed u → length u ≤ longestLength
-none-longer u l =
-    ⊎-elim (λ h. absurd (let t : T (verdict u) = l .accepted in rw (← too-long u h) at t)) (λ h. h) (below-or-not longestLength (length u))
+pub none-longer : (u : Word) → T (verdict u) → length u ≤ longestLength
+none-longer u t = ⊎-elim (λ h. absurd (rw (← too-long u h) at t)) (λ h. h) (below-or-not longestLength (length u))
 
 -- "5,963 toneless words pass: 25 bare onsets, 217 without onset, 5,721 with onset and vowels"; "The longest has 8 letters."
 pub counts : Counts
 unfolding how-many
 counts = record {
-  all = (nth listing, numbering);
-  bare = many (λ u. quickBare vowels u) isBareOnset _ (λ u t. kinds u t .bare-is) (omega (arith, bare));
-  without = many (λ u. quickWithout vowels u) isWithoutOnset _ (λ u t. kinds u t .without-is) (omega (arith, without));
-  both = many (λ u. quickBoth vowels u) hasBoth _ both-is (omega (arith, both));
+  all = listed-many;
+  bare = kept-many lists (λ u. quickBare vowels u) isBareOnset (λ u l. kinds u (toneless u l) .bare-is) _ (omega (arith, bare));
+  without =
+      kept-many lists (λ u. quickWithout vowels u) isWithoutOnset (λ u l. kinds u (toneless u l) .without-is) _ (omega (arith, without));
+  both = kept-many lists (λ u. quickBoth vowels u) hasBoth (λ u l. both-is u (toneless u l)) _ (omega (arith, both));
   longest = record {
-    within = λ u l. omega (arith, none-longer u l);
+    within = λ u l. omega (arith, none-longer u (l .accepted));
     word = longest;
     has = lists .only longest longest-held;
     reaches = omega (arith, eight-letters);

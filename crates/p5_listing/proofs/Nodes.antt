@@ -86,8 +86,7 @@ module _ (e : ℕ) (h : e < nodeCount) where
     down-within = leb→le (downIn (entryAt e)) nodeCount (falls .1);
     next-rises = next-rises e (entryAt e) h .0;
     next-within = next-rises e (entryAt e) h .1;
-    words-are =
-        eqb→eq (wordsIn (entryAt e)) (one (eqb (endIn (entryAt e)) 1) + trieSize (trieAt nodes (downIn (entryAt e)))) (counts .0);
+    words-are = eqb→eq (wordsIn (entryAt e)) (one (eqb (endIn (entryAt e)) 1) + trieSize (trieAt nodes (downIn (entryAt e)))) (counts .0);
     live = ltb→lt 0 (wordsIn (entryAt e)) (counts .1);
   }
 

@@ -7,10 +7,11 @@ use Rattle.p4_rows.specs.Rows.{Word}
 use Rattle.p4_spelling.specs.Verdict.{verdict}
 use Rattle.p4_spelling.proofs.Letters.{plainLetter}
 use Rattle.p5_trie.specs.Mirror.{trieSize, nth}
-use Rattle.p5_trie.specs.Numbering.{Found, Numbering, Named}
+use Rattle.p5_trie.specs.Numbering.{Many, Named}
 use Rattle.p5_trie.proofs.Tests.{inTrie}
 use Rattle.p5_trie.proofs.Words.{Numbered, sorted, numbered, every-nth, letters-nth}
 use Rattle.p5_trie.proofs.Numbering as Tries
+use Rattle.p5_trie.proofs.Unique.{has-name, name-has}
 use Rattle.p5_listing.specs.Listed.{plain, Listed}
 use Rattle.p5_listing.specs.Mirror.{listing}
 use Rattle.p5_listing.specs.Counts.{wordCount}
@@ -44,17 +45,13 @@ listed-held u l =
 pub lists : Tries.Lists Listed listing
 lists = record { sorted = sorted listing sorted-listing; only = held-listed; all = listed-held }
 
-pub numbering : Numbering Listed (nth listing) wordCount
-numbering = subst (λ (n : ℕ). Numbering Listed (nth listing) n) size-listing (Tries.numbering lists)
+pub listed-many : Many Listed wordCount
+listed-many = Tries.many lists wordCount size-listing
 
 -- "A word is accepted exactly if its lower-case toneless form is listed."
 pub accepted-has-number : (w : Word) → T (verdict w) → (n : ℕ) × Named Listed n (plain w)
 accepted-has-number w t =
-    let r : Found (nth listing) wordCount (plain w) =
-    numbering .every (plain w) (record { accepted = rw (verdict-plain w) t; isPlain = plain-again w }) in
-    (r .number, record { order = nth listing; total = wordCount; numbers = numbering; small = r .small; is = r .is })
+    has-name wordCount listed-many (plain w) (record { accepted = rw (verdict-plain w) t; isPlain = plain-again w })
 
 pub number-is-accepted : (w : Word) (n : ℕ) → Named Listed n (plain w) → T (verdict w)
-number-is-accepted w n r =
-    let t : T (verdict (plain w)) = rw (r .is) at (r .numbers .names n (r .small) .accepted) in
-    rw (verdict-plain w) at t
+number-is-accepted w n a = rw (verdict-plain w) at (name-has n (plain w) a .accepted)

@@ -7,10 +7,11 @@ use mathlib.Core.List.{List, [], _∷_}
 use lib.Dec.{T, eqb}
 use mir.Facts.{or-yes}
 use borrow.Author.Tests.{eqb-true}
-use Rattle.p5_trie.specs.Mirror.{Trie, none, node}
+use Rattle.p5_trie.specs.Mirror.{Trie, none, node, trieSize}
+use Rattle.p5_trie.specs.Numbering.{Many}
 use Rattle.p5_trie.proofs.Tests.{endsHere, inTrie}
 use Rattle.p5_trie.proofs.Words.{Above, Sorted}
-use Rattle.p5_trie.proofs.Numbering.{Lists, or-left, or-right}
+use Rattle.p5_trie.proofs.Numbering.{Lists, many, or-left, or-right}
 
 -- a word still ends where one did and passes; nothing is tested where none did
 abbrev stays : (List ℕ → Bool) → ℕ → Bool → Bool
@@ -25,7 +26,7 @@ unfolding keptIn
 kept-above f c none h = h
 kept-above f c (node x a d s) h = h
 
-pub kept-sorted : (f : List ℕ → Bool) (t : Trie) → Sorted t → Sorted (keptIn f t)
+kept-sorted : (f : List ℕ → Bool) (t : Trie) → Sorted t → Sorted (keptIn f t)
 unfolding keptIn
 kept-sorted f none o = tt
 kept-sorted f (node c a d s) o = (kept-above f c s (o .0), (kept-sorted (λ w. f (c ∷ w)) d (o .1 .0), kept-sorted f s (o .1 .1)))
@@ -41,7 +42,7 @@ kept-ends f c true [] t h = h
 kept-ends f c false [] t h = absurd t
 kept-ends f c a (x ∷ w) t h = absurd t
 
-pub held-kept : (f : List ℕ → Bool) (t : Trie) (w : List ℕ) → T (inTrie (keptIn f t) w) → T (inTrie t w) × T (f w)
+held-kept : (f : List ℕ → Bool) (t : Trie) (w : List ℕ) → T (inTrie (keptIn f t) w) → T (inTrie t w) × T (f w)
 unfolding inTrie keptIn
 held-kept f none w t = absurd t
 held-kept f (node c a d s) [] t = absurd t
@@ -62,7 +63,7 @@ held-kept f (node c a d s) (x ∷ w) t = go (eqb c x) refl t (λ q. held-kept (�
     go true e q down aside = (here q down .0, subst (λ (y : ℕ). T (f (y ∷ w))) (eqb-true c x e) (here q down .1))
     go false e q down aside = aside q
 
-pub kept-held : (f : List ℕ → Bool) (t : Trie) (w : List ℕ) → T (inTrie t w) → T (f w) → T (inTrie (keptIn f t) w)
+kept-held : (f : List ℕ → Bool) (t : Trie) (w : List ℕ) → T (inTrie t w) → T (f w) → T (inTrie (keptIn f t) w)
 unfolding inTrie keptIn
 kept-held f none w t h = absurd t
 kept-held f (node c a d s) [] t h = absurd t
@@ -79,11 +80,17 @@ kept-held f (node c a d s) (x ∷ w) t h = go (eqb c x) refl t (λ q k. kept-hel
         (or-yes (endsHere w a) (inTrie d w) q)
     go false e q down aside = aside q
 
--- the words of t have P, and those of them that pass f have Q
-pub kept-lists : {P Q : List ℕ → Type 0} {t : Trie} (f : List ℕ → Bool) → Lists P t → ((u : List ℕ) → P u → T (f u) → Q u)
-    → ((u : List ℕ) → Q u → P u × T (f u)) → Lists Q (keptIn f t)
-kept-lists {t = t} f l to from = record {
-  sorted = kept-sorted f t (l .sorted);
-  only = λ u h. let k : T (inTrie t u) × T (f u) = held-kept f t u h in to u (l .only u (k .0)) (k .1);
-  all = λ u q. kept-held f t u (l .all u (from u q .0)) (from u q .1);
-}
+-- the words of t have P; quick is f on them, in a form that antt computes fast
+module _ {P : List ℕ → Type 0} {t : Trie} (l : Lists P t) (quick f : List ℕ → Bool) (same : (u : List ℕ) → P u → quick u ≡ f u) where
+  kept-lists : Lists (λ (u : List ℕ). P u × T (f u)) (keptIn quick t)
+  kept-lists = record {
+    sorted = kept-sorted quick t (l .sorted);
+    only = λ u h.
+        let k : T (inTrie t u) × T (quick u) = held-kept quick t u h in
+        let p : P u = l .only u (k .0) in
+        (p, rw (same u p) at (k .1));
+    all = λ u q. kept-held quick t u (l .all u (q .0)) (rw (same u (q .0)) (q .1));
+  }
+
+  pub kept-many : (n : ℕ) → trieSize (keptIn quick t) ≡ n → Many (λ (u : List ℕ). P u × T (f u)) n
+  kept-many = many kept-lists

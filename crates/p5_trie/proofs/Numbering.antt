@@ -11,7 +11,7 @@ use borrow.Author.Tests.{eq-eqb, ne-eqb}
 use Rattle.p0_choice.proofs.Numbers.{below-or-not}
 use Rattle.p5_trie.specs.Order.{Before, AtMost}
 use Rattle.p5_trie.specs.Mirror.{Trie, none, node, one, trieSize, nth, upTo}
-use Rattle.p5_trie.specs.Numbering.{Found, Numbering, Follows, Last}
+use Rattle.p5_trie.specs.Numbering.{Found, Numbering, Many, Follows, Last}
 use Rattle.p5_trie.proofs.Tests.{endsHere, inTrie}
 use Rattle.p5_trie.proofs.Order.{not-after}
 use Rattle.p5_trie.proofs.Words.{Sorted, Headed, Numbered, size-none, size-node, nth-end, nth-into, nth-past, headed, cuts, upTo-nth}
@@ -76,6 +76,9 @@ module _ {P : List ℕ → Type 0} {t : Trie} (l : Lists P t) where
     ascends = λ m n k h. cuts t (l .sorted) (nth t m) n h .high (omega (arith, upTo-nth t (l .sorted) m (omega arith)));
     every = found;
   }
+
+  pub many : (n : ℕ) → trieSize t ≡ n → Many P n
+  many n e = (nth t, subst (Numbering P (nth t)) e numbering)
 
   -- a word of the property after w has a number from `upTo t w` on
   from-upTo : (w u : List ℕ) (r : Found (nth t) (trieSize t) u) → Before w u → upTo t w ≤ r .number

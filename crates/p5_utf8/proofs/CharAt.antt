@@ -36,8 +36,7 @@ module _ (a b c : ℕ) (v : Bool) (p : v ≡ tail c) where
         rw (
           inside 0xe0 0xe0 a (omega arith) (omega arith),
           below 0xe1 0xec a (omega arith),
-          below 0xed 0xed a
-              (omega arith),
+          below 0xed 0xed a (omega arith),
           below 0xee 0xef a (omega arith),
           ← p,
           not-false v n,
@@ -50,8 +49,7 @@ module _ (a b c : ℕ) (v : Bool) (p : v ≡ tail c) where
         rw (
           above 0xe0 0xe0 a (omega arith) (omega arith),
           above 0xe1 0xec a (omega arith) (omega arith),
-          inside 0xed 0xed a (omega arith)
-              (omega arith),
+          inside 0xed 0xed a (omega arith) (omega arith),
           below 0xee 0xef a (omega arith),
           ← p,
           not-false v n,
@@ -68,8 +66,7 @@ module _ (a b c : ℕ) (v : Bool) (p : v ≡ tail c) where
               above 0xe0 0xe0 a l (omega arith),
               inside 0xe1 0xec a (omega arith) m,
               below 0xed 0xed a (omega arith),
-              below 0xee 0xef a
-                  (omega arith),
+              below 0xee 0xef a (omega arith),
               ← p,
               not-false v n,
               ← q,
@@ -78,8 +75,7 @@ module _ (a b c : ℕ) (v : Bool) (p : v ≡ tail c) where
             rw (
               above 0xe0 0xe0 a l (omega arith),
               above 0xe1 0xec a (omega arith) m,
-              above 0xed 0xed a (omega arith)
-                  (omega arith),
+              above 0xed 0xed a (omega arith) (omega arith),
               inside 0xee 0xef a (omega arith) (omega arith),
               ← p,
               not-false v n,
@@ -108,8 +104,7 @@ module _ (a b c d : ℕ) (v : Bool) (p : v ≡ tail c) where
         rw (
           inside 0xf0 0xf0 a (omega arith) (omega arith),
           below 0xf1 0xf3 a (omega arith),
-          below 0xf4 0xf4 a
-              (omega arith),
+          below 0xf4 0xf4 a (omega arith),
           ← p,
           not-false v n,
           ← q,
@@ -123,8 +118,7 @@ module _ (a b c d : ℕ) (v : Bool) (p : v ≡ tail c) where
         rw (
           above 0xf0 0xf0 a (omega arith) (omega arith),
           above 0xf1 0xf3 a (omega arith) (omega arith),
-          inside 0xf4 0xf4 a (omega arith)
-              (omega arith),
+          inside 0xf4 0xf4 a (omega arith) (omega arith),
           ← p,
           not-false v n,
           ← q,
@@ -138,8 +132,7 @@ module _ (a b c d : ℕ) (v : Bool) (p : v ≡ tail c) where
         rw (
           above 0xf0 0xf0 a l (omega arith),
           inside 0xf1 0xf3 a (omega arith) (omega arith),
-          below 0xf4 0xf4 a
-              (omega arith),
+          below 0xf4 0xf4 a (omega arith),
           ← p,
           not-false v n,
           ← q,

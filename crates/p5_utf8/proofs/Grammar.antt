@@ -108,8 +108,7 @@ module _ (a : ℕ) (s : List ℕ) where
       rw (
         above 0xe0 0xe0 a (omega arith) (omega arith),
         above 0xe1 0xec a (omega arith) (omega arith),
-        above 0xed 0xed a (omega arith)
-            (omega arith),
+        above 0xed 0xed a (omega arith) (omega arith),
         above 0xee 0xef a (omega arith) (omega arith),
       ) refl
 
@@ -124,8 +123,7 @@ module _ (a : ℕ) (s : List ℕ) where
       rw (
         above 0xf0 0xf0 a (omega arith) (omega arith),
         above 0xf1 0xf3 a (omega arith) (omega arith),
-        above 0xf4 0xf4 a (omega arith)
-            (omega arith),
+        above 0xf4 0xf4 a (omega arith) (omega arith),
       ) refl
 
   not-4-yet : a < 0xf0 → begins utf8-4 (a ∷ s) ≡ false

@@ -1,6 +1,5 @@
 pub mod Reading
 pub mod Tests
-pub mod Zeros
 pub mod Sound
 pub mod Writing
 pub mod Round

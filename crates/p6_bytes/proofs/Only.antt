@@ -6,8 +6,8 @@ use Rattle.p6_bytes.proofs as own
 pub bytes-ok-only : OneAnswer own.bytes_ok.Kinds.ps own.bytes_ok.Kinds.r own.bytes_ok.Reads.Asked own.bytes_ok.Reads.Learnt
 bytes-ok-only κs a = (tt, λ z z′ w w′ q q′. (alike q q′, refl))
 
-pub decode-only : OneAnswerAsked own.decode.Kinds.ps own.decode.Kinds.r own.decode.Reads.Asked own.decode.Reads.Learnt
-decode-only κs a asked z z′ w w′ q q′ = (alike q q′, refl)
+pub settings-only : OneAnswerAsked own.settings.Kinds.ps own.settings.Kinds.r own.settings.Reads.Asked own.settings.Reads.Learnt
+settings-only κs a asked z z′ w w′ q q′ = (alike q q′, refl)
 
 pub method-number-only :
     OneAnswerAsked own.method_number.Kinds.ps own.method_number.Kinds.r own.method_number.Reads.Asked own.method_number.Reads.Learnt
@@ -20,14 +20,14 @@ mode-number-only κs a asked z z′ w w′ q q′ = (alike q q′, refl)
 pub cell-count-only : OneAnswerAsked own.cell_count.Kinds.ps own.cell_count.Kinds.r own.cell_count.Reads.Asked own.cell_count.Reads.Learnt
 cell-count-only κs a asked z z′ w w′ q q′ = (alike q q′, refl)
 
-pub encode-only : OneAnswerAsked own.encode.Kinds.ps own.encode.Kinds.r own.encode.Reads.Asked own.encode.Reads.Learnt
-encode-only κs a asked z z′ w w′ q q′ = (refl, λ i. (tt, (alike q q′ i, tt)))
-
-pub put-zeros-only : OneAnswerAsked own.put_zeros.Kinds.ps own.put_zeros.Kinds.r own.put_zeros.Reads.Asked own.put_zeros.Reads.Learnt
-put-zeros-only κs a asked z z′ w w′ q q′ = (refl, λ i. (alike q q′ i, (tt, (tt, tt))))
-
 pub cell-only : OneAnswerAsked own.cell.Kinds.ps own.cell.Kinds.r own.cell.Reads.Asked own.cell.Reads.Learnt
 cell-only κs a asked z z′ w w′ q q′ = (alike q q′, refl)
 
 pub store-only : OneAnswerAsked own.store.Kinds.ps own.store.Kinds.r own.store.Reads.Asked own.store.Reads.Learnt
 store-only κs a asked z z′ w w′ q q′ = (refl, λ i. (alike (q .1) (q′ .1) i, (tt, (tt, tt))))
+
+pub shown-only : OneAnswerAsked own.shown.Kinds.ps own.shown.Kinds.r own.shown.Reads.Asked own.shown.Reads.Learnt
+shown-only κs a asked z z′ w w′ q q′ = (alike q q′, refl)
+
+pub clear-only : OneAnswerAsked own.clear.Kinds.ps own.clear.Kinds.r own.clear.Reads.Asked own.clear.Reads.Learnt
+clear-only κs a asked z z′ w w′ q q′ = (refl, λ i. (alike q q′ i, tt))

@@ -18,8 +18,10 @@ use Rattle.p3_cells.specs.declared.Mode.{Mode}
 use Rattle.p3_cells.specs.declared.Mode.the-variants.{Vietnamese, English}
 use Rattle.p0_choice.proofs.Tests.{each-from}
 use Rattle.p3_cells.proofs.Soundness.{sound-length}
-use Rattle.p6_bytes.specs.Bytes.{head, known, size, methodByte, modeByte, flagByte, cellBytes, cellsBytes, zeros, headBytes, bytesOf}
-use Rattle.p6_bytes.specs.Bytes.{byteAt, cellAt, cellsAt, methodOf, modeOf, compositionOf, spellsCell, isZero, reservedZero}
+use Rattle.p6_bytes.specs.Bytes.{head, known, size, methodByte, modeByte, flagByte, cellBytes, cellsBytes, headBytes, bytesOf}
+use Rattle.p6_zeros.specs.Zeros.{zeros}
+use Rattle.p6_bytes.specs.Bytes.{cellAt, cellsAt, methodOf, modeOf, compositionOf, spellsCell, reservedZero}
+use Rattle.p6_zeros.specs.Zeros.{byteAt, isZero}
 use Rattle.p6_bytes.specs.Bytes.{bytesSound}
 use Rattle.p6_bytes.proofs.Writing.{cell-length, bytes-length}
 use Rattle.p6_bytes.proofs.Sound.{sound-size, sound-method, sound-mode, sound-reserved, sound-flag}
@@ -100,18 +102,18 @@ pub read-written : (c : Composition) → length (c .cells) ≡ limit → composi
 unfolding bytesOf headBytes compositionOf
 read-written c n =
     let k : cellsAt limit (bytesOf c) head ≡ c .cells = rw n at (cells-back (headBytes c) (c .cells) head refl) in
-    rw (k, method-back (c .method), mode-back (c .mode)) refl
+    rw (k, method-back (c .settings .method), mode-back (c .settings .mode)) refl
 
 module _ (c : Composition) where
-  method-small : methodByte (c .method) ≤ 1
-  method-small = go (c .method)
+  method-small : methodByte (c .settings .method) ≤ 1
+  method-small = go (c .settings .method)
     where
       go : (m : InputMethod) → methodByte m ≤ 1
       go Telex = omega arith
       go Vni = omega arith
 
-  mode-small : modeByte (c .mode) ≤ 1
-  mode-small = go (c .mode)
+  mode-small : modeByte (c .settings .mode) ≤ 1
+  mode-small = go (c .settings .mode)
     where
       go : (o : Mode) → modeByte o ≤ 1
       go Vietnamese = omega arith
@@ -125,8 +127,8 @@ module _ (c : Composition) where
       let l : length (bytesOf c) ≡ size = omega (arith, bytes-length (c .cells)) in
       rw (
         eq-eqb (length (bytesOf c)) size l,
-        le-leb (methodByte (c .method)) 1 method-small,
-        le-leb (modeByte (c .mode)) 1 mode-small,
+        le-leb (methodByte (c .settings .method)) 1 method-small,
+        le-leb (modeByte (c .settings .mode)) 1 mode-small,
         each-from (spellsCell (bytesOf c)) limit 0 (λ i k h. le-leb _ 1 (flags-back (headBytes c) (c .cells) head refl i (omega arith))),
       )
       (rw (read-written c n) s)

@@ -3,28 +3,29 @@
 use Prim.Native.Nat.{ℕ, zero, suc, _+_, _*_, _-_, _/_, _%_, _≤_, _<_}
 use mathlib.Core.Path.{_≡_, refl, sym, ap, _∙_}
 use mathlib.Core.Bool.{Bool, true, false, not}
-use mathlib.Core.List.{List, _++_}
+use mathlib.Core.List.{List}
 use mathlib.Core.Logic.{⊎-elim}
 use native.Mathlib.Omega.{arith}
 use lib.Dec.{eqb, leb}
-use lib.ListN.{length, getD, length-append, List·getD-append}
-use lib.Seq.{ext-getD, getD-append-add}
+use lib.ListN.{length, take, drop, length-drop}
+use lib.Seq.{take-all}
 use borrow.Author.Tests.{eq-eqb, eqb-true, eqb-false, le-leb, leb-true, not-true, not-false}
 use Rattle.p0_choice.specs.Choice.{each, from}
 use Rattle.p0_choice.proofs.Tables.{each-count}
 use Rattle.p0_choice.proofs.Arms.{not-yes}
-use Rattle.p3_cells.specs.Cells.{limit, blank, blanks, isCell, isSound}
+use Rattle.p3_cells.specs.Cells.{limit, blank, isCell, isSound}
 use Rattle.p3_cells.specs.Soundness.{Sound}
 use Rattle.p3_cells.specs.declared.Cell.{Cell}
-use Rattle.p2_input_method.specs.declared.InputMethod.{InputMethod}
-use Rattle.p3_cells.specs.declared.Mode.{Mode}
-use Rattle.p3_cells.proofs.Holding.{length-blanks, blanks-at}
 use Rattle.p0_choice.proofs.Numbers.{below-or-not}
 use Rattle.p0_choice.proofs.Tests.{both-are, are-both, holds, each-from}
 use Rattle.p3_cells.proofs.Soundness.{sound-is, is-sound, cell-is, is-cell}
-use Rattle.p6_bytes.specs.Bytes.{head, known, start, size, byteAt, cellAt, cellsAt, methodOf, modeOf, compositionOf, spellsCell}
-use Rattle.p6_bytes.specs.Bytes.{isZero, reservedZero, bytesSound}
-use Rattle.p6_bytes.specs.Mirror.{cellFits, cellsFit, zeroIn, zeroFrom}
+use Rattle.p6_bytes.specs.Bytes.{head, known, start, size, cellAt, compositionOf, spellsCell}
+use Rattle.p6_zeros.specs.Zeros.{byteAt}
+use Rattle.p6_bytes.specs.Bytes.{reservedZero, bytesSound}
+use Rattle.p6_zeros.specs.Zeros.{isZero}
+use Rattle.p6_bytes.specs.Mirror.{cellFits, cellsFit}
+use Rattle.p6_zeros.specs.Mirror.{zeroIn, zeroFrom}
+use Rattle.p6_zeros.proofs.Zeros.{part-zero}
 use Rattle.p6_bytes.proofs.Reading.{cells-length, cells-at}
 
 each-is : (p : ℕ → Bool) (n i : ℕ) → each p (from n i) ≡ true → (j : ℕ) → i ≤ j → j < i + n → p j ≡ true
@@ -225,11 +226,14 @@ module _ (b : List ℕ) where
           past = λ i k h. rw (cells-at limit b head i h) (zero-blank b i (past-zero i (omega arith) h));
         }
 
-    -- the last test decides
-    pub zero-decides : (r w v : Bool) → length b ≡ size → byteAt b 0 ≤ 1 → byteAt b 1 ≤ 1 → n ≤ limit → w ≡ reservedZero b → not w ≡ false
-        → v ≡ cellsFit b n → not v ≡ false → r ≡ zeroFrom b (start n)
+    -- the last test decides, on the part past the cells in use
+    pub zero-decides : (r w v : Bool) (part : List ℕ) → length b ≡ size → byteAt b 0 ≤ 1 → byteAt b 1 ≤ 1 → n ≤ limit → w ≡ reservedZero b
+        → not w ≡ false → v ≡ cellsFit b n → not v ≡ false → part ≡ take (size - start n) (drop (start n) b) → r ≡ zeroFrom part 0
         → r ≡ bytesSound b
-    zero-decides r w v l m o f g d q t e =
+    zero-decides r w v part l m o f g d q t h k =
+        let a : take (size - start n) (drop (start n) b) ≡ drop (start n) b =
+        take-all (size - start n) (drop (start n) b) (omega (arith, length-drop (start n) b)) in
+        let e : r ≡ zeroFrom b (start n) = k ∙ ap (λ (x : List ℕ). zeroFrom x 0) (h ∙ a) ∙ part-zero b (start n) in
         both r (bytesSound b) (λ (h : r ≡ true). tests-sound l m o f (sym g ∙ not-false w d) (sym q ∙ not-false v t) (sym e ∙ h))
         (λ (h : bytesSound b ≡ true). e ∙ rw p (sound-zero b h))
       where
@@ -242,36 +246,3 @@ module _ (b : List ℕ) where
 module _ (b : List ℕ) (s : bytesSound b ≡ true) where
   pub byte-there : (i : ℕ) → i < size → i < length b
   byte-there i h = let l = sound-size b s in omega arith
-
-  pub count-read : (n : ℕ) → n ≡ byteAt b 2 → n ≤ limit
-  count-read n p = rw p (sound-count b s)
-
-  cells-read : cellsAt limit b head ≡ cellsAt (byteAt b 2) b head ++ blanks (limit - byteAt b 2)
-  cells-read =
-      let n = sound-count b s in
-      ext-getD blank (cellsAt limit b head) (cellsAt (byteAt b 2) b head ++ blanks (limit - byteAt b 2))
-      (cells-length limit b head ∙ sym
-      (length-append (cellsAt (byteAt b 2) b head) (blanks (limit - byteAt b 2))
-      ∙ rw (cells-length (byteAt b 2) b head, length-blanks) (omega arith)))
-      (λ i h. at i (rw (cells-length limit b head) at h))
-    where
-      at : (i : ℕ) → i < limit → getD (cellsAt limit b head) i blank ≡ getD
-          (cellsAt (byteAt b 2) b head ++ blanks (limit - byteAt b 2)) i blank
-      at i h =
-          cells-at limit b head i h
-          ∙ ⊎-elim (λ (g : i < byteAt b 2).
-          sym (List·getD-append (cellsAt (byteAt b 2) b head) (blanks (limit - byteAt b 2)) blank i
-          (rw (cells-length (byteAt b 2) b head) g) ∙ cells-at (byteAt b 2) b head i g))
-          (λ (g : byteAt b 2 ≤ i).
-          let l = cells-length (byteAt b 2) b head in
-          let d : i ≡ length (cellsAt (byteAt b 2) b head) + (i - byteAt b 2) = omega arith in
-          cell-past b s i g h ∙ sym (ap (λ (k : ℕ). getD (cellsAt (byteAt b 2) b head ++ blanks (limit - byteAt b 2)) k blank) d
-          ∙ getD-append-add (cellsAt (byteAt b 2) b head) (blanks (limit - byteAt b 2)) (i - byteAt b 2) blank
-          ∙ blanks-at (limit - byteAt b 2) (i - byteAt b 2)))
-          (below-or-not i (byteAt b 2))
-
-  pub decoded : (xs : List Cell) (n : ℕ) (m : InputMethod) (o : Mode) → n ≡ byteAt b 2 → xs ≡ cellsAt n b head ++ blanks (limit - n)
-      → m ≡ methodOf (byteAt b 0) → o ≡ modeOf (byteAt b 1)
-      → record { cells = xs; method = m; mode = o; count = n } ≡ compositionOf b
-  unfolding compositionOf
-  decoded xs n m o p q t u = rw (q, p, ← cells-read, t, u) refl

@@ -1,32 +1,57 @@
 -- The cells where they lie: one is read, and one, or a byte of the head, is stored.
-use Prim.Native.Nat.{ℕ, zero, suc, _+_, _*_, _-_, _<_}
-use mathlib.Core.Path.{_≡_, refl, sym, _∙_}
-use mathlib.Core.Bool.{true}
-use mathlib.Core.List.{List, [], _∷_, _++_}
+use Prim.Native.Nat.{ℕ, zero, suc, _+_, _*_, _-_, _<_, _≤_}
+use mathlib.Core.Path.{_≡_, refl, sym, ap, _∙_}
+use mathlib.Core.Bool.{true, false}
+use mathlib.Core.List.{List, [], _∷_, _++_, append-nil}
 use native.Mathlib.Omega.{arith}
-use lib.ListN.{length, getD, take, drop, set}
+use lib.ListN.{length, take, drop, set, length-set, drop-of-length-le}
+use borrow.Author.Tests.{ne-eqb}
 use mir.Syntax.{w8}
 use mir.Val.{Fits}
 use Rattle.p2_input_method.specs.declared.InputMethod.{InputMethod}
-use Rattle.p3_cells.specs.Cells.{limit, blank, blanks}
+use Rattle.p3_cells.specs.Cells.{limit, composed}
+use Rattle.p3_cells.specs.Mirror.{cellOf, places, withCell, withCount, withSettings}
+use Rattle.p3_cells.specs.Text.{letterOf, shown}
 use Rattle.p3_cells.specs.declared.Cell.{Cell}
 use Rattle.p3_cells.specs.declared.Composition.{Composition}
 use Rattle.p3_cells.specs.declared.Mode.{Mode}
-use Rattle.p6_bytes.specs.Bytes.{head, start, size, methodByte, modeByte, cellBytes, cellsBytes, zeros, headBytes, bytesOf}
-use Rattle.p6_bytes.specs.Bytes.{byteAt, cellAt, compositionOf, bytesSound}
-use Rattle.p6_bytes.specs.Mirror.{stored}
+use Rattle.p3_cells.specs.Settings.{atFirst, withMethod, withMode}
+use Rattle.p6_bytes.specs.Bytes.{head, start, size, methodByte, modeByte, cellBytes, cellsBytes, headBytes, bytesOf}
+use Rattle.p6_zeros.specs.Zeros.{zeros, byteAt}
+use Rattle.p6_zeros.specs.Mirror.{longAt}
+use Rattle.p3_cells.proofs.Text.{shown-bare}
+use Rattle.p6_bytes.specs.Bytes.{cellAt, compositionOf, bytesSound}
+use Rattle.p6_bytes.specs.Mirror.{stored, cleared}
 use Rattle.p6_bytes.proofs.Reading.{cells-length, cells-at}
 use Rattle.p6_bytes.proofs.Round.{written-back}
 use Rattle.p6_bytes.proofs.Writing.{blank-bytes}
 
+toneless : (b : List ℕ) (at : ℕ) → longAt b at < 281474976710656 → cellAt b at .tone ≡ 0
+unfolding longAt cellAt
+toneless b at h = omega arith
+
+flagless : (b : List ℕ) (at : ℕ) → longAt b at < 281474976710656 → cellAt b at .upper ≡ false
+unfolding longAt cellAt
+flagless b at h = ne-eqb (byteAt b (at + 7)) 1 (λ e. omega arith)
+
 -- ---- read
-pub cells-all : (b : List ℕ) → length (compositionOf b .cells) ≡ limit
+pub cells-all : (b : List ℕ) → places (compositionOf b) ≡ limit
 unfolding compositionOf
 cells-all b = cells-length limit b head
 
-pub cell-there : (b : List ℕ) (i : ℕ) (r : Cell) → i < limit → r ≡ cellAt b (start i) → r ≡ getD (compositionOf b .cells) i blank
+pub cell-there : (b : List ℕ) (i : ℕ) (r : Cell) → i < limit → r ≡ cellAt b (start i) → r ≡ cellOf (compositionOf b) i
 unfolding compositionOf
 cell-there b i r h e = e ∙ sym (cells-at limit b head i h)
+
+-- neither a tone nor a flag: the last two bytes are 0
+pub bare-shown : (b : List ℕ) (i w l : ℕ) (x : Cell) → w ≡ longAt b (start i) → w < 281474976710656 → i < limit
+    → x ≡ cellOf (compositionOf b) i → l ≡ letterOf x → l ≡ shown (cellOf (compositionOf b) i)
+bare-shown b i w l x e h k p q =
+    let c : cellOf (compositionOf b) i ≡ cellAt b (start i) = sym (cell-there b i _ k refl) in
+    rw c (shown-bare (cellAt b (start i)) l (toneless b (start i) (rw e at h)) (flagless b (start i) (rw e at h)) (q ∙ ap letterOf (p ∙ c)))
+
+pub other-shown : (b : List ℕ) (i r : ℕ) (x : Cell) → x ≡ cellOf (compositionOf b) i → r ≡ shown x → r ≡ shown (cellOf (compositionOf b) i)
+other-shown b i r x p q = q ∙ ap shown p
 
 -- ---- a cell and the count, stored
 pub stored-is : (b next : List ℕ) (i : ℕ) (x : Cell)
@@ -44,8 +69,8 @@ cells-set (y ∷ ys) (suc i) x h =
     let f : 8 * suc i + 8 ≡ suc (suc (suc (suc (suc (suc (suc (suc (8 * i + 8)))))))) = omega arith in
     rw (f, e) (rw (cells-set ys i x (omega arith)) refl)
 
-pub cell-stored : (c : Composition) (i : ℕ) (x : Cell) → i < length (c .cells)
-    → stored (bytesOf c) i x ≡ bytesOf (record { cells = set (c .cells) i x; method = c .method; mode = c .mode; count = c .count })
+pub cell-stored : (c : Composition) (i : ℕ) (x : Cell) → i < places c
+    → stored (bytesOf c) i x ≡ bytesOf (withCell c i x)
 unfolding stored bytesOf headBytes
 cell-stored c i x h =
     let e : start i ≡ suc (suc (suc (suc (suc (suc (suc (suc (8 * i)))))))) = omega arith in
@@ -53,20 +78,43 @@ cell-stored c i x h =
     rw (f, e, cells-set (c .cells) i x h) refl
 
 pub count-stored : (c : Composition) (n : ℕ)
-    → set (bytesOf c) 2 n ≡ bytesOf (record { cells = c .cells; method = c .method; mode = c .mode; count = n })
+    → set (bytesOf c) 2 n ≡ bytesOf (withCount c n)
 unfolding bytesOf headBytes
 count-stored c n = refl
 
+pub method-stored : (c : Composition) (m : InputMethod) (n : ℕ) → n ≡ methodByte m
+    → set (bytesOf c) 0 n ≡ bytesOf (withSettings c (withMethod (c .settings) m))
+unfolding bytesOf headBytes
+method-stored c m n e = rw e refl
+
 pub mode-stored : (c : Composition) (o : Mode) (n : ℕ) → n ≡ modeByte o
-    → set (bytesOf c) 1 n ≡ bytesOf (record { cells = c .cells; method = c .method; mode = o; count = c .count })
+    → set (bytesOf c) 1 n ≡ bytesOf (withSettings c (withMode (c .settings) o))
 unfolding bytesOf headBytes
 mode-stored c o n e = rw e refl
 
--- with no cells, whatever stood past the mode
-pub emptied : (m : InputMethod) (o : Mode) → methodByte m ∷ modeByte o ∷ zeros (size - 2)
-    ≡ bytesOf (record { cells = blanks limit; method = m; mode = o; count = 0 })
-unfolding bytesOf headBytes
-emptied m o = rw (blank-bytes limit) refl
+-- ---- no cells
+pub set-room : (b : List ℕ) (i x : ℕ) → length b ≡ size → size ≤ length (set b i x)
+set-room b i x e = omega (arith, length-set b i x)
+
+pub set-length : (b new : List ℕ) (i x : ℕ) → length new ≡ length (set b i x) → length new ≡ length b
+set-length b new i x e = e ∙ length-set b i x
+
+pub cleared-is : (b new : List ℕ) → length b ≡ size
+    → new ≡ take head (set b 2 0) ++ (zeros (size - head) ++ drop size (set b 2 0)) → new ≡ cleared b
+unfolding cleared
+cleared-is b new l e =
+    let h : length (set b 2 0) ≤ size = omega (arith, length-set b 2 0) in
+    e ∙ ap (λ (r : List ℕ). take head (set b 2 0) ++ (zeros (size - head) ++ r)) (drop-of-length-le (set b 2 0) h)
+    ∙ ap (λ (r : List ℕ). take head (set b 2 0) ++ r) (append-nil (zeros (size - head)))
+
+pub cells-cleared : (c : Composition) → cleared (bytesOf c) ≡ bytesOf (composed (c .settings) [])
+unfolding cleared bytesOf headBytes composed
+cells-cleared c = rw (blank-bytes limit) refl
+
+-- ---- a new composition: the method's byte, and zeros
+pub begun-bytes : (m : InputMethod) → methodByte m ∷ zeros (size - 1) ≡ bytesOf (composed (atFirst m) [])
+unfolding bytesOf headBytes composed
+begun-bytes m = rw (blank-bytes limit) refl
 
 -- ---- the bytes that a call is lent are those of their composition
 pub lent : (b : List ℕ) → ((k : ℕ) → Fits w8 (byteAt b k)) → bytesSound b ≡ true → bytesOf (compositionOf b) ≡ b

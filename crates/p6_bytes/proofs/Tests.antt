@@ -1,5 +1,5 @@
 -- The loops of the test: what is left decides.
-use Prim.Native.Nat.{ℕ, suc, _+_, _*_, _-_, _≤_, _<_}
+use Prim.Native.Nat.{ℕ, suc, _+_, _-_, _≤_, _<_}
 use mathlib.Core.Path.{_≡_, refl, sym, _∙_}
 use mathlib.Core.Bool.{Bool, true, false, not}
 use mathlib.Core.List.{List}
@@ -7,14 +7,18 @@ use mathlib.Core.Logic.{inl}
 use native.Mathlib.Omega.{arith}
 use lib.Dec.{eqb, ltb}
 use borrow.Author.Tests.{ne-eqb, eqb-true, eqb-false, lt-ltb, le-ltb, le-leb, lt-leb, not-true, not-false}
+use mir.Syntax.{w8}
+use mir.Val.{Fits}
 use Rattle.p0_choice.specs.Choice.{pick, each, from as numbers}
 use Rattle.p0_choice.proofs.Tests.{are-both}
 use Rattle.p1_letters.specs.Alphabet.{inAlphabet}
 use Rattle.p3_cells.specs.Cells.{isCell}
 use Rattle.p3_cells.specs.declared.Cell.{Cell}
 use Rattle.p3_cells.proofs.Soundness.{is-cell}
-use Rattle.p6_bytes.specs.Bytes.{byteAt, cellAt, start, spellsCell, isZero, reservedZero}
-use Rattle.p6_bytes.specs.Mirror.{longAt, cellFits, cellsFit}
+use Rattle.p6_bytes.specs.Bytes.{cellAt, start, spellsCell, reservedZero}
+use Rattle.p6_zeros.specs.Zeros.{byteAt, isZero}
+use Rattle.p6_bytes.specs.Mirror.{cellFits, cellsFit}
+use Rattle.p6_zeros.specs.Mirror.{longAt}
 
 turn : (p : ℕ → Bool) (n i : ℕ) → i < n → each p (numbers (n - i) i) ≡ pick (p i) (each p (numbers (n - (i + 1)) (i + 1))) false
 turn p n i h =
@@ -37,38 +41,27 @@ sum-zero x y = go (eqb x 0) refl
     go true e = let z : x + y ≡ y = omega (arith, eqb-true x 0 e) in rw z refl
     go false e = sym (ne-eqb (x + y) 0 (λ (q : x + y ≡ 0). eqb-false x 0 e (omega arith)))
 
--- all eight as a number n: it is below 256 to the third where the last five are 0
-module _ (b0 b1 b2 b3 b4 b5 b6 b7 : ℕ) (h0 : b0 < 256) (h1 : b1 < 256) (h2 : b2 < 256) where
-  below-as : (n : ℕ) (t : Bool) → n ≡ b0 + b1 * 256 + b2 * 65536 + b3 * 16777216 + b4 * 4294967296 + b5 * 1099511627776 + b6 *
-      281474976710656 + b7 * 72057594037927936 → eqb (b3 + (b4 + (b5 + (b6 + b7)))) 0 ≡ t → ltb n 16777216 ≡ t
-  below-as n true p e = let z = eqb-true (b3 + (b4 + (b5 + (b6 + b7)))) 0 e in lt-ltb n 16777216 (omega arith)
-  below-as n false p e = le-ltb n 16777216 (omega (arith, eqb-false (b3 + (b4 + (b5 + (b6 + b7)))) 0 e))
+abbrev rest : List ℕ → ℕ
+rest b = byteAt b 3 + (byteAt b 4 + (byteAt b 5 + (byteAt b 6 + byteAt b 7)))
 
-  pub below : (n : ℕ) → n ≡ b0 + b1 * 256 + b2 * 65536 + b3 * 16777216 + b4 * 4294967296 + b5 * 1099511627776 + b6 * 281474976710656
-      + b7 * 72057594037927936 → ltb n 16777216 ≡ eqb (b3 + (b4 + (b5 + (b6 + b7)))) 0
-  below n p = below-as n _ p refl
+below : (b : List ℕ) → ((k : ℕ) → Fits w8 (byteAt b k)) → (w : ℕ) (t : Bool) → w ≡ longAt b 0 → eqb (rest b) 0 ≡ t → ltb w 16777216 ≡ t
+unfolding longAt
+below b f w true p e = lt-ltb w 16777216 (omega (arith, eqb-true (rest b) 0 e, f 0 .fits, f 1 .fits, f 2 .fits))
+below b f w false p e = le-ltb w 16777216 (omega (arith, eqb-false (rest b) 0 e))
 
-pub free : (b : List ℕ) (r : Bool) → r ≡ eqb (byteAt b 3 + (byteAt b 4 + (byteAt b 5 + (byteAt b 6 + byteAt b 7)))) 0 → r ≡ reservedZero b
+pub free : (b : List ℕ) → ((k : ℕ) → Fits w8 (byteAt b k)) → (w : ℕ) → w ≡ longAt b 0 → ltb w 16777216 ≡ reservedZero b
 unfolding reservedZero isZero
-free b r e =
-    e
+free b f w p =
+    below b f w _ p refl
     ∙ sym (rw (
       whole (eqb (byteAt b 7) 0),
       sum-zero (byteAt b 6) (byteAt b 7),
       sum-zero (byteAt b 5) _,
       sum-zero (byteAt b 4) _,
-      sum-zero
-          (byteAt b 3) _,
+      sum-zero (byteAt b 3) _,
     ) refl)
 
 -- ---- one cell
-pub long-read : (b : List ℕ) (at n : ℕ)
-    → n ≡ byteAt b at + byteAt b (at + 1) * 256 + byteAt b (at + 2) * 65536 + byteAt b (at + 3) * 16777216 + byteAt b (at + 4) * 4294967296
-    + byteAt b (at + 5) * 1099511627776 + byteAt b (at + 6) * 281474976710656 + byteAt b (at + 7) * 72057594037927936
-    → n ≡ longAt b at
-unfolding longAt
-long-read b at n e = e
-
 ascii-cell : (x : Cell) → x .base < 128 → x .mark ≡ 0 → x .tone ≡ 0 → isCell x ≡ true
 unfolding inAlphabet
 ascii-cell x b m t = is-cell x (record { base = rw (lt-ltb (x .base) 0x80 b) refl; mark = inl m; tone = inl t })
@@ -81,13 +74,19 @@ module _ (b : List ℕ) (i : ℕ) where
       sym (are-both _ _ (le-leb (byteAt b (start i + 7)) 1 (omega arith))
       (ascii-cell (cellAt b (start i)) (omega arith) (omega arith) (omega arith)))
 
-  pub no-flag : 1 < byteAt b (start i + 7) → false ≡ cellFits b i
+  pub no-flag : (byteAt b (start i + 7) ≡ 0 → ⊥) → (byteAt b (start i + 7) ≡ 1 → ⊥) → false ≡ cellFits b i
   unfolding cellFits spellsCell
-  no-flag h = rw (lt-leb (byteAt b (start i + 7)) 1 h) refl
+  no-flag h k = rw (lt-leb (byteAt b (start i + 7)) 1 (omega arith)) refl
 
-  pub flag-fits : (r : Bool) (x : Cell) → byteAt b (start i + 7) ≤ 1 → x ≡ cellAt b (start i) → r ≡ isCell x → r ≡ cellFits b i
+  flag-fits : (r : Bool) (x : Cell) → byteAt b (start i + 7) ≤ 1 → x ≡ cellAt b (start i) → r ≡ isCell x → r ≡ cellFits b i
   unfolding cellFits spellsCell
   flag-fits r x h p q = rw (le-leb (byteAt b (start i + 7)) 1 h, ← p) q
+
+  pub flag-off : (r : Bool) (x : Cell) → byteAt b (start i + 7) ≡ 0 → x ≡ cellAt b (start i) → r ≡ isCell x → r ≡ cellFits b i
+  flag-off r x h = flag-fits r x (omega arith)
+
+  pub flag-on : (r : Bool) (x : Cell) → byteAt b (start i + 7) ≡ 1 → x ≡ cellAt b (start i) → r ≡ isCell x → r ≡ cellFits b i
+  flag-on r x h = flag-fits r x (omega arith)
 
 -- ---- the cells in use
 pub fit-start : (b : List ℕ) (n : ℕ) → cellsFit b n ≡ each (cellFits b) (numbers (n - 0) 0)

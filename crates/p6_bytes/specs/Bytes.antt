@@ -1,11 +1,11 @@
--- Document 01, "Port order": "the composition as bytes in an order that docs/ states". A head of 8 bytes: the method, the
--- mode, the count, and bytes kept for settings to come. Then the cells, of 8 bytes each: the base in four and the mark in two, low
--- byte first, the tone, the capital flag.
+-- Document 01, "Port order": "the composition as bytes in an order that docs/ states". A head of 8 bytes: the settings
+-- (method, mode), the count, and bytes kept for settings to come. Then the cells, of 8 bytes each: the base in four and the
+-- mark in two, low byte first, the tone, the capital flag.
 use Prim.Native.Nat.{ℕ, zero, suc, _+_, _*_, _-_, _/_, _%_}
 use mathlib.Core.Bool.{Bool, false}
 use mathlib.Core.List.{List, [], _∷_, _++_}
 use lib.Dec.{eqb, leb}
-use lib.ListN.{length, getD, replicate}
+use lib.ListN.{length}
 use Rattle.p0_choice.specs.Choice.{pick, each, from}
 use Rattle.p2_input_method.specs.declared.InputMethod.{InputMethod}
 use Rattle.p2_input_method.specs.declared.InputMethod.the-variants.{Telex, Vni}
@@ -14,6 +14,8 @@ use Rattle.p3_cells.specs.declared.Cell.{Cell}
 use Rattle.p3_cells.specs.declared.Composition.{Composition}
 use Rattle.p3_cells.specs.declared.Mode.{Mode}
 use Rattle.p3_cells.specs.declared.Mode.the-variants.{Vietnamese, English}
+use Rattle.p3_cells.specs.declared.Settings.{Settings}
+use Rattle.p6_zeros.specs.Zeros.{zeros, byteAt, isZero}
 
 abbrev pub head : ℕ
 head = 8
@@ -50,19 +52,13 @@ abbrev pub cellsBytes : List Cell → List ℕ
 cellsBytes [] = []
 cellsBytes (x ∷ xs) = cellBytes x ++ cellsBytes xs
 
-abbrev pub zeros : ℕ → List ℕ
-zeros n = replicate {A = ℕ} n 0
-
 unfoldable pub headBytes : Composition → List ℕ
-headBytes c = methodByte (c .method) ∷ modeByte (c .mode) ∷ c .count ∷ zeros (head - known)
+headBytes c = methodByte (c .settings .method) ∷ modeByte (c .settings .mode) ∷ c .count ∷ zeros (head - known)
 
 unfoldable pub bytesOf : Composition → List ℕ
 bytesOf c = headBytes c ++ cellsBytes (c .cells)
 
 -- ---- and read
-abbrev pub byteAt : List ℕ → ℕ → ℕ
-byteAt b i = getD b i 0
-
 unfoldable pub cellAt : List ℕ → ℕ → Cell
 cellAt b at =
     record {
@@ -82,17 +78,16 @@ methodOf x = pick (eqb x 0) Telex Vni
 unfoldable pub modeOf : ℕ → Mode
 modeOf x = pick (eqb x 0) Vietnamese English
 
+abbrev pub settingsOf : List ℕ → Settings
+settingsOf b = record { method = methodOf (byteAt b 0); mode = modeOf (byteAt b 1) }
+
 unfoldable pub compositionOf : List ℕ → Composition
-compositionOf b =
-    record { cells = cellsAt limit b head; method = methodOf (byteAt b 0); mode = modeOf (byteAt b 1); count = byteAt b 2 }
+compositionOf b = record { cells = cellsAt limit b head; settings = settingsOf b; count = byteAt b 2 }
 
 -- ---- "Bytes of another length, or that spell no method, mode or cell, are not sound."
 -- a flag that is neither on nor off spells no cell
 unfoldable pub spellsCell : List ℕ → ℕ → Bool
 spellsCell b i = leb (byteAt b (start i + 7)) 1
-
-unfoldable pub isZero : List ℕ → ℕ → Bool
-isZero b i = eqb (byteAt b i) 0
 
 -- the reserved bytes are 0
 unfoldable pub reservedZero : List ℕ → Bool

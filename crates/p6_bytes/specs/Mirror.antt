@@ -1,14 +1,15 @@
 -- How the code holds things: no sentence of document 01 stands here, and no promise to a host leads here.
 -- The cells in the parts that the code takes: those in use one by one, and the bytes past them, which are those of blank
 -- cells. proofs/Sound.antt shows that the two tests, after those of the head, are `bytesSound`.
-use Prim.Native.Nat.{ℕ, _+_, _*_, _-_}
+use Prim.Native.Nat.{ℕ, _+_, _-_}
 use mathlib.Core.Bool.{Bool, false}
 use mathlib.Core.List.{List, _++_}
-use lib.ListN.{length, take, drop}
+use lib.ListN.{take, drop, set}
 use Rattle.p0_choice.specs.Choice.{pick, each, from}
 use Rattle.p3_cells.specs.Cells.{isCell}
 use Rattle.p3_cells.specs.declared.Cell.{Cell}
-use Rattle.p6_bytes.specs.Bytes.{byteAt, cellBytes, cellAt, start, spellsCell, isZero}
+use Rattle.p6_zeros.specs.Zeros.{zeros}
+use Rattle.p6_bytes.specs.Bytes.{head, start, size, cellBytes, cellAt, spellsCell}
 
 unfoldable pub cellFits : List ℕ → ℕ → Bool
 cellFits b i = pick (spellsCell b i) (isCell (cellAt b (start i))) false
@@ -17,20 +18,10 @@ cellFits b i = pick (spellsCell b i) (isCell (cellAt b (start i))) false
 unfoldable pub cellsFit : List ℕ → ℕ → Bool
 cellsFit b n = each (cellFits b) (from n 0)
 
--- the n bytes from a place on are 0
-unfoldable pub zeroIn : List ℕ → ℕ → ℕ → Bool
-zeroIn b n i = each (isZero b) (from n i)
-
--- each byte from a place on is 0
-unfoldable pub zeroFrom : List ℕ → ℕ → Bool
-zeroFrom b i = zeroIn b (length b - i) i
-
--- eight bytes as one number, low byte first
-unfoldable pub longAt : List ℕ → ℕ → ℕ
-longAt b at =
-    byteAt b at + byteAt b (at + 1) * 256 + byteAt b (at + 2) * 65536 + byteAt b (at + 3) * 16777216 + byteAt b (at + 4) * 4294967296
-    + byteAt b (at + 5) * 1099511627776 + byteAt b (at + 6) * 281474976710656 + byteAt b (at + 7) * 72057594037927936
-
 -- the bytes with another cell where the one at place i lies
 unfoldable pub stored : List ℕ → ℕ → Cell → List ℕ
 stored b i x = take (start i) b ++ (cellBytes x ++ drop (start i + 8) b)
+
+-- the bytes with no cells
+unfoldable pub cleared : List ℕ → List ℕ
+cleared b = take head (set b 2 0) ++ zeros (size - head)

@@ -1,30 +1,25 @@
 // The composition as bytes, for a host in C: read, tested and written. docs/BYTES.md states their order.
 ghost use mathlib.Core.Path.{_≡_};
-ghost use mathlib.Core.Bool.{true, false};
+ghost use mathlib.Core.Bool.{true};
 ghost use mathlib.Core.List.{_++_};
-ghost use Prim.Native.Nat.{_+_, _*_, _-_, _<_, _≤_};
-ghost use lib.Dec.{eqb};
-ghost use lib.ListN.{length, getD, take, drop};
-ghost use Rattle.p0_choice.specs.Choice.{pick};
-ghost use Rattle.p3_cells.specs.Cells.{limit, blank, blanks, used, holding};
-ghost use Rattle.p6_bytes.specs.Bytes.{head, size, methodByte, modeByte, flagByte, cellBytes, cellsBytes, zeros, bytesOf, cellAt};
-ghost use Rattle.p6_bytes.specs.Bytes.{start, methodOf, modeOf, cellsAt, compositionOf, reservedZero, bytesSound};
-ghost use Rattle.p6_bytes.specs.Mirror.{longAt, cellFits, cellsFit, zeroIn, zeroFrom, stored};
+ghost use Prim.Native.Nat.{_+_, _*_, _<_, _≤_};
+ghost use lib.ListN.{length, take, drop};
+ghost use Rattle.p3_cells.specs.Cells.{limit};
+ghost use Rattle.p3_cells.specs.Mirror.{cellOf};
+ghost use Rattle.p3_cells.specs.Text.{shown as shownOf};
+ghost use Rattle.p6_bytes.specs.Bytes.{size, methodByte, modeByte, flagByte, cellBytes, cellAt};
+ghost use Rattle.p6_bytes.specs.Bytes.{methodOf, modeOf, compositionOf, reservedZero, bytesSound};
+ghost use Rattle.p6_bytes.specs.Mirror.{cellFits, cellsFit, stored, cleared};
 use p2_input_method::InputMethod;
 use p3_cells as cells;
 use p3_cells::Cell;
-use p3_cells::Composition;
 use p3_cells::Mode;
+use p3_cells::Settings;
+use p6_zeros as zeros;
 
 pub const HEAD: usize = 8;
 
 pub const SIZE: usize = HEAD + 8 * cells::LIMIT;
-
-// The bytes of the head that say something; the others are reserved.
-const KNOWN: usize = 3;
-
-// How many bytes are tested for 0 at once.
-const BLOCK: usize = 128;
 
 // ---- reading
 
@@ -60,148 +55,36 @@ fn cell_at(b: &[u8], at: usize) -> Cell
     }
 }
 
-fn method_of(x: u8) -> InputMethod
-    ensures { λ r. ⌜ r ≡ methodOf x ⌝ }
-{
-    if x == 0 {
-        return InputMethod::Telex;
-    }
-    InputMethod::Vni
-}
-
-fn mode_of(x: u8) -> Mode
-    ensures { λ r. ⌜ r ≡ modeOf x ⌝ }
-{
-    if x == 0 {
-        return Mode::Vietnamese;
-    }
-    Mode::English
-}
-
 // ---- soundness
 
-// Eight bytes as one number: LLVM makes one load of it.
-fn eight(b0: u8, b1: u8, b2: u8, b3: u8, b4: u8, b5: u8, b6: u8, b7: u8) -> u64
-    ensures { λ r. ⌜ r ≡ b0 + b1 * 256 + b2 * 65536 + b3 * 16777216 + b4 * 4294967296 + b5 * 1099511627776 + b6 * 281474976710656
-        + b7 * 72057594037927936 ⌝ }
-{
-    let low = (b0 as u64) + (b1 as u64) * 256 + (b2 as u64) * 65536 + (b3 as u64) * 16777216;
-    let more = low + (b4 as u64) * 4294967296 + (b5 as u64) * 1099511627776;
-    more + (b6 as u64) * 281474976710656 + (b7 as u64) * 72057594037927936
-}
-
-// Whether the last five of eight bytes are 0: the number is below 256 to the third then.
-fn last_zero(b0: u8, b1: u8, b2: u8, b3: u8, b4: u8, b5: u8, b6: u8, b7: u8) -> bool
-    ensures { λ r. ⌜ r ≡ eqb (b3 + (b4 + (b5 + (b6 + b7)))) 0 ⌝ }
-{
-    eight(b0, b1, b2, b3, b4, b5, b6, b7) < 16777216
-}
-
-fn long_at(b: &[u8], at: usize) -> u64
-    requires { ⌜ at + 8 ≤ length (now b) ⌝ }
-    ensures { λ r. ⌜ r ≡ longAt (now (b .entry)) at ⌝ }
-{
-    eight(
-        b[at],
-        b[at + 1],
-        b[at + 2],
-        b[at + 3],
-        b[at + 4],
-        b[at + 5],
-        b[at + 6],
-        b[at + 7],
-    )
-}
-
-// 0 where both are. A loop of it, or of `greater`, has no way out, so that the search is done by vectors.
-fn either(a: u64, b: u64) -> u64
-    ensures { λ r. ⌜ eqb r 0 ≡ pick (eqb a 0) (eqb b 0) false ⌝ }
-{
-    a | b
-}
-
-// 0 where the 128 bytes from a place on are.
-fn block(b: &[u8], at: usize) -> u64
-    requires { ⌜ at + 128 ≤ length (now b) ⌝ }
-    ensures { λ r. ⌜ eqb r 0 ≡ zeroIn (now (b .entry)) 128 at ⌝ }
-{
-    let mut t: u64 = 0;
-    let mut j: usize = 0;
-    while j < 16 {
-        let w = long_at(b, at + 8 * j);
-        t = either(t, w);
-        j += 1;
-    }
-    t
-}
-
-// The greater of two bytes, by which a few bytes are searched.
-fn greater(a: u8, b: u8) -> u8
-    ensures { λ r. ⌜ eqb r 0 ≡ pick (eqb a 0) (eqb b 0) false ⌝ }
-{
-    if a < b {
-        return b;
-    }
-    a
-}
-
-fn few_zero(b: &[u8], at: usize) -> bool
-    requires { ⌜ at ≤ length (now b) ⌝ }
-    ensures { λ r. ⌜ r ≡ zeroFrom (now (b .entry)) at ⌝ }
-{
-    let mut most: u8 = 0;
-    let mut i = at;
-    while i < b.len() {
-        most = greater(most, b[i]);
-        i += 1;
-    }
-    most == 0
-}
-
-// By blocks. The last one is taken from the end, over bytes that were seen.
-fn zero_from(b: &[u8], at: usize) -> bool
-    requires { ⌜ at ≤ length (now b) ⌝ }
-    ensures { λ r. ⌜ r ≡ zeroFrom (now (b .entry)) at ⌝ }
-{
-    let n = b.len();
-    if n - at < BLOCK {
-        return few_zero(b, at);
-    }
-    let last = n - BLOCK;
-    let mut i = at;
-    while i < last {
-        let w = block(b, i);
-        if 0 < w {
-            return false;
-        }
-        i += BLOCK;
-    }
-    let w = block(b, last);
-    w == 0
-}
-
-// The bytes of the head from KNOWN on.
+// The bytes of the head that say nothing: as one number it is below 256 to the third, as three bytes say something.
 fn reserved_zero(b: &[u8]) -> bool
     requires { ⌜ length (now b) ≡ size ⌝ }
     ensures { λ r. ⌜ r ≡ reservedZero (now (b .entry)) ⌝ }
 {
-    last_zero(b[0], b[1], b[2], b[3], b[4], b[5], b[6], b[7])
+    zeros::long_at(b, 0) < 16777216
 }
 
-// Most cells are an ASCII letter alone, which one comparison tells.
+// Most cells are an ASCII letter alone, which one comparison tells. With an arm for each flag the cell is one load.
 fn cell_fits(b: &[u8], i: usize) -> bool
     requires { ⌜ (length (now b) ≡ size) × (i + 1 ≤ limit) ⌝ }
     ensures { λ r. ⌜ r ≡ cellFits (now (b .entry)) i ⌝ }
 {
     let at = HEAD + 8 * i;
-    if long_at(b, at) < 128 {
+    if zeros::long_at(b, at) < 128 {
         return true;
     }
-    if 1 < b[at + 7] {
-        return false;
+    match b[at + 7] {
+        0 => {
+            let x = cell_at(b, at);
+            cells::is_cell(x)
+        }
+        1 => {
+            let x = cell_at(b, at);
+            cells::is_cell(x)
+        }
+        _ => false,
     }
-    let x = cell_at(b, at);
-    cells::is_cell(x)
 }
 
 fn cells_fit(b: &[u8], n: usize) -> bool
@@ -218,7 +101,8 @@ fn cells_fit(b: &[u8], n: usize) -> bool
     true
 }
 
-// The bytes of a sound composition.
+// The bytes of a sound composition. Those past the cells in use are lent as a part, so that the slice itself is handed on to
+// no call, for which it would be copied.
 pub fn bytes_ok(b: &[u8]) -> bool
     ensures { λ r. ⌜ r ≡ bytesSound (now (b .entry)) ⌝ }
 {
@@ -241,42 +125,37 @@ pub fn bytes_ok(b: &[u8]) -> bool
     if !cells_fit(b, n) {
         return false;
     }
-    zero_from(b, HEAD + 8 * n)
+    zeros::all_zero(&b[HEAD + 8 * n..SIZE])
 }
 
-// ---- the composition
+// ---- its settings and numbers, each of which is one byte
 
-fn cells_of(b: &[u8], n: usize) -> [Cell; cells::LIMIT]
-    requires { ⌜ (length (now b) ≡ size) × (n ≤ limit) ⌝ }
-    ensures { λ r. ⌜ r ≡ cellsAt n (now (b .entry)) head ++ blanks (limit - n) ⌝ }
+fn method_of(x: u8) -> InputMethod
+    ensures { λ r. ⌜ r ≡ methodOf x ⌝ }
 {
-    let z = cells::blank();
-    let mut xs = [z; cells::LIMIT];
-    let mut i: usize = 0;
-    while i < n {
-        xs[i] = cell_at(b, HEAD + 8 * i);
-        i += 1;
+    if x == 0 {
+        return InputMethod::Telex;
     }
-    xs
+    InputMethod::Vni
 }
 
-pub fn decode(b: &[u8]) -> Composition
-    requires { ⌜ bytesSound (now b) ≡ true ⌝ }
-    ensures { λ r. ⌜ r ≡ compositionOf (now (b .entry)) ⌝ }
+fn mode_of(x: u8) -> Mode
+    ensures { λ r. ⌜ r ≡ modeOf x ⌝ }
 {
-    let n = wide(b[2]);
-    let xs = cells_of(b, n);
+    if x == 0 {
+        return Mode::Vietnamese;
+    }
+    Mode::English
+}
+
+pub fn settings(b: &[u8]) -> Settings
+    requires { ⌜ bytesSound (now b) ≡ true ⌝ }
+    ensures { λ r. ⌜ r ≡ compositionOf (now (b .entry)) .settings ⌝ }
+{
     let method = method_of(b[0]);
     let mode = mode_of(b[1]);
-    Composition {
-        cells: xs,
-        method,
-        mode,
-        count: n,
-    }
+    Settings { method, mode }
 }
-
-// ---- its numbers, each of which is one byte
 
 fn number(b: u8) -> u32
     ensures { λ r. ⌜ r ≡ b ⌝ }
@@ -286,14 +165,14 @@ fn number(b: u8) -> u32
 
 pub fn method_number(b: &[u8]) -> u32
     requires { ⌜ bytesSound (now b) ≡ true ⌝ }
-    ensures { λ r. ⌜ r ≡ methodByte (compositionOf (now (b .entry)) .method) ⌝ }
+    ensures { λ r. ⌜ r ≡ methodByte (compositionOf (now (b .entry)) .settings .method) ⌝ }
 {
     number(b[0])
 }
 
 pub fn mode_number(b: &[u8]) -> u32
     requires { ⌜ bytesSound (now b) ≡ true ⌝ }
-    ensures { λ r. ⌜ r ≡ modeByte (compositionOf (now (b .entry)) .mode) ⌝ }
+    ensures { λ r. ⌜ r ≡ modeByte (compositionOf (now (b .entry)) .settings .mode) ⌝ }
 {
     number(b[1])
 }
@@ -306,24 +185,6 @@ pub fn cell_count(b: &[u8]) -> usize
 }
 
 // ---- writing
-
-fn method_byte(m: InputMethod) -> u8
-    ensures { λ r. ⌜ r ≡ methodByte m ⌝ }
-{
-    match m {
-        InputMethod::Telex => 0,
-        InputMethod::Vni => 1,
-    }
-}
-
-fn mode_byte(m: Mode) -> u8
-    ensures { λ r. ⌜ r ≡ modeByte m ⌝ }
-{
-    match m {
-        Mode::Vietnamese => 0,
-        Mode::English => 1,
-    }
-}
 
 fn flag_byte(on: bool) -> u8
     ensures { λ r. ⌜ r ≡ flagByte on ⌝ }
@@ -348,52 +209,11 @@ fn put_cell(b: &mut [u8], at: usize, x: Cell)
     b[at + 7] = flag_byte(x.upper);
 }
 
-fn put_cells(c: Composition, b: &mut [u8])
-    requires { ⌜ (length (now b) ≡ size) × (c .count ≤ limit) ⌝ }
-    ensures { λ _. ⌜ (length (now (b .exit)) ≡ size)
-        × (now (b .exit) ≡ (take head (now (b .entry)) ++ cellsBytes (used c)) ++ drop (start (c .count)) (now (b .entry))) ⌝ }
-{
-    let n = c.count;
-    let mut i: usize = 0;
-    while i < n {
-        let x = c.cells[i];
-        put_cell(b, HEAD + 8 * i, x);
-        i += 1;
-    }
-}
-
-pub fn put_zeros(b: &mut [u8], at: usize, end: usize)
-    requires { ⌜ (at ≤ end) × (end ≤ length (now b)) ⌝ }
-    ensures { λ _. ⌜ now (b .exit) ≡ take at (now (b .entry)) ++ (zeros (end - at) ++ drop end (now (b .entry))) ⌝ }
-{
-    let mut i = at;
-    while i < end {
-        b[i] = 0;
-        i += 1;
-    }
-}
-
-// Writes a composition whose cells past the count are blank: only the cells in use one by one.
-pub fn encode(c: Composition, b: &mut [u8])
-    requires { ⌜ (length (now b) ≡ size) × (c ≡ holding c (used c)) ⌝ }
-    ensures { λ _. ⌜ now (b .exit) ≡ bytesOf c ⌝ }
-{
-    let m = c.method;
-    let o = c.mode;
-    let n = c.count;
-    b[0] = method_byte(m);
-    b[1] = mode_byte(o);
-    b[2] = n as u8;
-    put_zeros(b, KNOWN, HEAD);
-    put_cells(c, b);
-    put_zeros(b, HEAD + 8 * n, SIZE);
-}
-
 // ---- the cells where they lie
 
 pub fn cell(b: &[u8], i: usize) -> Cell
     requires { ⌜ (length (now b) ≡ size) × (i < limit) ⌝ }
-    ensures { λ r. ⌜ r ≡ getD (compositionOf (now (b .entry)) .cells) i blank ⌝ }
+    ensures { λ r. ⌜ r ≡ cellOf (compositionOf (now (b .entry))) i ⌝ }
 {
     cell_at(b, HEAD + 8 * i)
 }
@@ -403,4 +223,25 @@ pub fn store(b: &mut [u8], i: usize, x: Cell)
     ensures { λ _. ⌜ (length (now (b .exit)) ≡ size) × (now (b .exit) ≡ stored (now (b .entry)) i x) ⌝ }
 {
     put_cell(b, HEAD + 8 * i, x);
+}
+
+// Most cells have neither a tone nor a flag, which one comparison tells.
+pub fn shown(b: &[u8], i: usize) -> u32
+    requires { ⌜ (length (now b) ≡ size) × (i < limit) ⌝ }
+    ensures { λ r. ⌜ r ≡ shownOf (cellOf (compositionOf (now (b .entry))) i) ⌝ }
+{
+    let x = cell(b, i);
+    if zeros::long_at(b, HEAD + 8 * i) < 281474976710656 {
+        return cells::letter_of(x);
+    }
+    cells::shown(x)
+}
+
+// No cells: the count and the cells' bytes are 0.
+pub fn clear(b: &mut [u8])
+    requires { ⌜ length (now b) ≡ size ⌝ }
+    ensures { λ _. ⌜ now (b .exit) ≡ cleared (now (b .entry)) ⌝ }
+{
+    b[2] = 0;
+    zeros::put_zeros(b, HEAD, SIZE);
 }

@@ -24,22 +24,22 @@ use Rattle.p3_calls.proofs.Back.{removal-back}
 one-more : (cs : List Cell) {ds : List Cell} → Framed cs ds → length ds ≡ suc (length cs) → (x : Cell) × (ds ≡ cs ++ (x ∷ []))
 one-more cs (appends x) e = (x, refl)
 one-more cs (changes i x h) e = absurd (omega (arith, length-set cs i x))
-one-more cs (changesTwo i x y h) e = absurd (omega (arith, length-set (set cs i x) (suc i) y, length-set cs i x))
+one-more cs (changesTwo i x y h) e = absurd (omega (arith, length-set (set cs (suc i) y) i x, length-set cs (suc i) y))
 
 module _ (c : Composition) (s : isSound c ≡ true) (key : ℕ) where
   appended-one : holding c (nextCells c key) .count ≡ suc (c .count) → (x : Cell) × (nextCells c key ≡ used c ++ (x ∷ []))
   unfolding nextCells
   appended-one e =
-      one-more (used c) (key-frame (c .method) (used c) key) (omega (arith, count-held c (nextCells c key), used-length c s))
+      one-more (used c) (key-frame (c .settings) (used c) key) (omega (arith, count-held (c .settings) (nextCells c key), used-length c s))
 
   -- a key that no step fits, and that is not refused, makes the cells one more
-  pub key-appends : (n k : ℕ) → c .mode ≡ Vietnamese → nextCells c key ≡ appended (used c) key → keyed c key n .answer ≡ Done k
+  pub key-appends : (n k : ℕ) → c .settings .mode ≡ Vietnamese → nextCells c key ≡ appended (used c) key → keyed c key n .answer ≡ Done k
       → keyed c key n .comp .count ≡ suc (c .count)
   unfolding keyed keyNext appended
   key-appends n k m a e =
       let d : keyed c key n .comp ≡ holding c (nextCells c key)
       = done-leaves (answer (keyOutcome c key) n) c (keyNext c key) k e ∙ ap (λ (o : Mode). inMode o (holding c (nextCells c key)) c) m in
-      ap (λ (x : Composition). x .count) d ∙ count-held c (nextCells c key) ∙ ap length a
+      ap (λ (x : Composition). x .count) d ∙ count-held (c .settings) (nextCells c key) ∙ ap length a
       ∙ rw length-append (omega (arith, used-length c s))
 
   abbrev Back : ℕ → ℕ → Composition → Type 0
@@ -55,7 +55,7 @@ module _ (c : Composition) (s : isSound c ≡ true) (key : ℕ) where
   pub key-back : (n m j : ℕ) → keyed c key n .comp .count ≡ suc (c .count) → removed (keyed c key n .comp) m .answer ≡ Done j
       → removed (keyed c key n .comp) m .comp ≡ c
   unfolding keyed keyNext
-  key-back n m j = leaving-keeps (Back m j) (answer (keyOutcome c key) n) c (keyNext c key) (same m j) (λ k e. go (c .mode))
+  key-back n m j = leaving-keeps (Back m j) (answer (keyOutcome c key) n) c (keyNext c key) (same m j) (λ k e. go (c .settings .mode))
     where
       go : (o : Mode) → Back m j (inMode o (holding c (nextCells c key)) c)
       go English = same m j

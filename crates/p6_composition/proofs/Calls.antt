@@ -1,30 +1,23 @@
 -- Each way through a call on bytes.
-use Prim.Native.Nat.{ℕ, _<_, _≤_}
+use Prim.Native.Nat.{ℕ, _-_, _<_, _≤_}
 use mathlib.Core.Path.{_≡_, refl, sym, ap, _∙_}
 use mathlib.Core.Bool.{Bool, true, false, not}
-use mathlib.Core.List.{List}
-use lib.ListN.{length}
+use mathlib.Core.List.{List, [], _∷_, _++_}
+use native.Mathlib.Omega.{arith}
+use lib.ListN.{length, take, drop, set, length-set, drop-of-length-le}
 use borrow.Author.Tests.{not-true, not-false, eq-eqb, ne-eqb, le-leb, lt-leb}
 use Rattle.p0_choice.specs.Choice.{pick}
 use Rattle.p0_refusals.specs.Answers.{Outcome}
-use Rattle.p0_refusals.specs.declared.Answer.{Answer}
 use Rattle.p0_refusals.specs.declared.Answer.the-variants.{Done, Refused}
 use Rattle.p0_refusals.specs.declared.Refusal.the-variants.{Unsound}
-use Rattle.p2_input_method.specs.declared.InputMethod.{InputMethod}
-use Rattle.p3_cells.specs.Cells.{isSound, used, holding}
-use Rattle.p3_cells.specs.declared.Composition.{Composition}
-use Rattle.p3_cells.proofs.Holding.{holding-used}
-use Rattle.p6_bytes.specs.Bytes.{size, bytesOf, compositionOf, methodOf, bytesSound}
-use Rattle.p6_bytes.proofs.Sound.{sound-size}
 use Rattle.p3_calls.specs.Settings.{created}
-use Rattle.p3_calls.proofs.Kept.{new-sound}
 use Rattle.p3_cells.specs.declared.After.{After}
-use Rattle.p3_undo.specs.Call.{undoTelex}
-use Rattle.p3_undo.specs.declared.Undone.{Undone}
-use Rattle.p6_composition.specs.UndoAnswer.{undoLeaving}
-use Rattle.p6_composition.specs.Calls.{answerOn, bytesAfter, bytesOn, outOn, undoOn, orUnsound}
-use Rattle.p6_composition.specs.Calls.{methodOn, modeOn, textOn, newOn, newBytes}
-use Rattle.p6_composition.proofs.Kept.{undo-step}
+use Rattle.p6_bytes.specs.Bytes.{size, methodOf, bytesSound}
+use Rattle.p6_zeros.specs.Zeros.{zeros}
+use Rattle.p6_bytes.proofs.Round.{method-forth}
+use Rattle.p6_bytes.proofs.Sound.{sound-size}
+use Rattle.p6_bytes.proofs.Stored.{begun-bytes}
+use Rattle.p6_composition.specs.Calls.{answerOn, bytesOn, outOn, orUnsound, methodOn, modeOn, textOn, newOn, newBytes}
 
 -- the test has let the bytes through
 pub ok-sound : (b : List ℕ) (v : Bool) → v ≡ bytesSound b → not v ≡ false → bytesSound b ≡ true
@@ -42,35 +35,11 @@ module _ (b : List ℕ) (s : After) (v : Bool) (e : v ≡ bytesSound b) where
   unfolding bytesOn answerOn
   unsound-bytes t = rw (← e, not-true v t) refl
 
-  -- p is what the call by value leaves
-  module _ (p : After) (q : p ≡ s) where
-    pub sound-answer : (r : Answer) → not v ≡ false → r ≡ p .answer → r ≡ answerOn b s
-    unfolding answerOn
-    sound-answer r t h = rw (← e, not-false v t) (h ∙ ap (λ (x : After). x .answer) q)
-
-    pub sound-bytes : (new : List ℕ) → not v ≡ false → new ≡ bytesAfter (p .answer) b (p .comp) → new ≡ bytesOn b s
-    unfolding bytesOn answerOn
-    sound-bytes new t h = rw (← e, not-false v t) (h ∙ ap (λ (x : After). bytesAfter (x .answer) b (x .comp)) q)
-
 -- ---- a lent output
 module _ (b out : List ℕ) (w : Outcome) (v : Bool) (e : v ≡ bytesSound b) where
   pub unsound-out : not v ≡ true → out ≡ outOn b w out
   unfolding outOn
   unsound-out t = rw (← e, not-true v t) refl
-
--- what a call leaves is sound, and so can be written: its cells past the count are blank
-ready : (p s : After) → p ≡ s → isSound (s .comp) ≡ true → p .comp ≡ holding (p .comp) (used (p .comp))
-ready p s e h = rw e (holding-used (s .comp) h)
-
--- ---- undo
-module _ (b : List ℕ) (c : Composition) (l : ℕ) (raw : List ℕ) (k : Undone) (p : After) (f : c ≡ compositionOf b)
-    (g : k ≡ undoTelex c l raw) (h : p ≡ undoLeaving k) where
-  pub undo-is : p ≡ undoOn b l raw
-  unfolding undoOn
-  undo-is = rw (h, g, f) refl
-
-  pub undo-ready : (v : Bool) → v ≡ bytesSound b → not v ≡ false → p .comp ≡ holding (p .comp) (used (p .comp))
-  undo-ready v e t = ready p (undoOn b l raw) undo-is (undo-step b (ok-sound b v e t) l raw)
 
 -- ---- the text
 module _ (b : List ℕ) (n : ℕ) (v : Bool) (e : v ≡ bytesSound b) where
@@ -109,6 +78,10 @@ module _ (b : List ℕ) (n : ℕ) (l : 1 < n) where
   no-mode-bytes = or-kept _
 
 -- ---- a new composition
+one : (s : List ℕ) {a : ℕ} → 1 ≤ length s → take 1 (set s 0 a) ≡ a ∷ []
+one (x ∷ r) h = refl
+one [] h = absurd (omega arith)
+
 module _ (b : List ℕ) (n : ℕ) where
   pub new-size : (length b ≡ size → ⊥) → Refused Unsound ≡ newOn b n
   unfolding newOn
@@ -131,10 +104,13 @@ module _ (b : List ℕ) (n : ℕ) where
     unfolding newOn
     new-done h = rw (eq-eqb (length b) size z, le-leb n 1 h) refl
 
-    pub new-done-bytes : (m : InputMethod) (c : Composition) (new : List ℕ) → n ≤ 1 → m ≡ methodOf n → c ≡ created m → new ≡ bytesOf c
-        → new ≡ newBytes b n
-    unfolding newBytes
-    new-done-bytes m c new h i f g = rw (← new-done h, ← i, ← f) g
+    pub new-room : size ≤ length (set b 0 n)
+    new-room = omega (arith, length-set b 0 n)
 
-pub new-ready : (m : InputMethod) (c : Composition) → c ≡ created m → c ≡ holding c (used c)
-new-ready m c e = rw e (holding-used (created m) (new-sound m))
+    pub new-done-bytes : (new : List ℕ) → n ≤ 1 → new ≡ take 1 (set b 0 n) ++ (zeros (size - 1) ++ drop size (set b 0 n))
+        → new ≡ newBytes b n
+    unfolding newBytes created
+    new-done-bytes new h g =
+        let l : length (set b 0 n) ≤ size = omega (arith, length-set b 0 n) in
+        rw (← new-done h) (g ∙ rw (one b (omega arith), drop-of-length-le (set b 0 n) l) (ap (λ (x : ℕ). x ∷ zeros (size - 1))
+        (sym (method-forth n h)) ∙ begun-bytes (methodOf n)))

@@ -2,10 +2,10 @@
 use Prim.Native.Nat.{ℕ, _+_, _-_, _<_, _≤_}
 use mathlib.Core.Path.{_≡_, refl, sym, ap, _∙_}
 use mathlib.Core.Bool.{Bool, true, false, not}
-use mathlib.Core.List.{List, [], _∷_, _++_}
+use mathlib.Core.List.{List, [], _++_}
 use native.Mathlib.Omega.{arith}
 use lib.Dec.{eqb}
-use lib.ListN.{length, getD, take, drop, set, length-set, drop-of-length-le}
+use lib.ListN.{length, drop, set, length-set}
 use borrow.Author.Tests.{eq-eqb, ne-eqb, le-leb}
 use mir.Syntax.{w8}
 use mir.Val.{Fits}
@@ -15,30 +15,30 @@ use Rattle.p0_refusals.specs.declared.Answer.the-variants.{Done, Refused}
 use Rattle.p0_refusals.specs.declared.Refusal.{Refusal}
 use Rattle.p0_refusals.specs.declared.Refusal.the-variants.{Foreign, Full, Short, Empty}
 use Rattle.p1_letters.specs.Alphabet.{inAlphabet}
-use Rattle.p2_input_method.specs.declared.InputMethod.{InputMethod}
-use Rattle.p3_cells.specs.Cells.{limit, blank, typed, isSound, used}
+use Rattle.p3_cells.specs.Cells.{limit, blank, typed, isSound, used, composed}
 use Rattle.p3_cells.specs.Leaving.{refusing}
 use Rattle.p3_cells.specs.Text.{shown, textOf}
 use Rattle.p3_cells.specs.declared.After.{After}
+use Rattle.p3_cells.specs.Mirror.{cellOf, firstCells, withCell, withCount, withSettings, places}
 use Rattle.p3_cells.specs.declared.Cell.{Cell}
 use Rattle.p3_cells.specs.declared.Composition.{Composition}
-use Rattle.p3_cells.specs.declared.Mode.{Mode}
 use Rattle.p3_cells.specs.declared.Mode.the-variants.{Vietnamese, English}
 use Rattle.p3_cells.proofs.Leaving.{leaving-refused, leaving-nothing}
 use Rattle.p3_cells.proofs.Text.{writtenTo, written-none, written-more}
 use Rattle.p3_calls.specs.Literal.{literal}
 use Rattle.p3_calls.specs.Output.{textOutcome, removalOutcome}
-use Rattle.p3_calls.specs.Settings.{empty, resetTo, methodSet, turned, enabledSet}
+use Rattle.p3_cells.specs.Settings.{withMethod, withMode}
+use Rattle.p3_calls.specs.Settings.{resetTo, methodSet, turned, enabledSet}
 use Rattle.p3_calls.proofs.Literal.{literal-foreign, literal-full, literal-done, literal-appended}
 use Rattle.p3_calls.proofs.Output.{text-short, text-short-out, text-done, text-done-out, removal-empty, removal-empty-out, removal-short}
 use Rattle.p3_calls.proofs.Output.{removal-short-out, removal-done, removal-done-out}
 use Rattle.p3_calls.proofs.Settings.{set-done, turned-off, turned-on}
-use Rattle.p6_bytes.specs.Bytes.{size, methodByte, modeByte, byteAt, zeros, bytesOf, compositionOf, methodOf, bytesSound}
-use Rattle.p6_bytes.specs.Mirror.{stored}
-use Rattle.p6_bytes.proofs.Fields.{method-field, mode-field}
+use Rattle.p6_bytes.specs.Bytes.{size, bytesOf, compositionOf, methodOf, bytesSound}
+use Rattle.p6_zeros.specs.Zeros.{byteAt}
+use Rattle.p6_bytes.specs.Mirror.{stored, cleared}
 use Rattle.p6_bytes.proofs.Round.{read-written, method-forth}
 use Rattle.p6_bytes.proofs.Sound.{sound-size, sound-composition, sound-count}
-use Rattle.p6_bytes.proofs.Stored.{cells-all, cell-stored, count-stored, mode-stored, emptied, lent}
+use Rattle.p6_bytes.proofs.Stored.{cells-all, cell-stored, count-stored, method-stored, mode-stored, cells-cleared, lent}
 use Rattle.p6_composition.specs.Calls.{answerOn, bytesOn, outOn, resetOn, literalOn, removalOn, orUnsound, methodOn, modeOn, textOn}
 use Rattle.p6_composition.proofs.Calls.{ok-sound}
 
@@ -46,17 +46,14 @@ use Rattle.p6_composition.proofs.Calls.{ok-sound}
 pub text-start : (b o : List ℕ) → o ≡ writtenTo (compositionOf b) 0 o
 text-start b o = written-none (compositionOf b) o
 
-pub text-on : (b o out : List ℕ) (i n v : ℕ) (x : Cell) → out ≡ writtenTo (compositionOf b) i o → x ≡ getD (compositionOf b .cells) i blank
-    → v ≡ shown x → i < n → n ≤ limit → n ≤ length o
+pub text-on : (b o out : List ℕ) (i n v : ℕ) → out ≡ writtenTo (compositionOf b) i o → v ≡ shown (cellOf (compositionOf b) i)
+    → i < n → n ≤ limit → n ≤ length o
     → set out i v ≡ writtenTo (compositionOf b) (i + 1) o
 unfolding writtenTo
-text-on b o out i n v x e p q h l m =
-    written-more
-    (record { cells = compositionOf b .cells; method = compositionOf b .method; mode = compositionOf b .mode; count = n })
-    o out i v e (q ∙ ap shown p) (cells-all b) h l m
+text-on b o out i n v e q h l m = written-more (withCount (compositionOf b) n) o out i v e q (cells-all b) h l m
 
 pub text-all : (b o out : List ℕ) (i n : ℕ) → out ≡ writtenTo (compositionOf b) i o → i ≤ n → n ≤ i
-    → out ≡ textOf (take n (compositionOf b .cells)) ++ drop n o
+    → out ≡ textOf (firstCells (compositionOf b) n) ++ drop n o
 unfolding writtenTo
 text-all b o out i n e l h = let z : i ≡ n = omega arith in rw z at e
 
@@ -79,29 +76,23 @@ module _ (b : List ℕ) (n : ℕ) (v : Bool) (p : n ≡ compositionOf b .count) 
   pub less-below : (n ≡ 0 → ⊥) → n - 1 < limit
   less-below z = omega (arith, few b n v p e t)
 
-pub room : (b : List ℕ) (v : Bool) → v ≡ bytesSound b → not v ≡ false → size ≤ length b
-room b v e t = omega (arith, sound-size b (ok-sound b v e t))
-
-pub set-room : (b : List ℕ) (i x : ℕ) (v : Bool) → v ≡ bytesSound b → not v ≡ false → size ≤ length (set b i x)
-set-room b i x v e t = omega (arith, set-size b i x (sound-size b (ok-sound b v e t)))
-
-pub set-length : (b new : List ℕ) (i x : ℕ) → length new ≡ length (set b i x) → length new ≡ length b
-set-length b new i x e = e ∙ length-set b i x
+pub set-ok : (b : List ℕ) (i x : ℕ) (v : Bool) → v ≡ bytesSound b → not v ≡ false → length (set b i x) ≡ size
+set-ok b i x v e t = set-size b i x (sound-size b (ok-sound b v e t))
 
 pub same-size : (b s : List ℕ) (i x : ℕ) → length s ≡ size → length b ≡ size → length (set s i x) ≡ length b
 same-size b s i x l k = set-size s i x l ∙ sym k
 
 -- ---- what is told and left, where k is what the call by value leaves
 module _ (b : List ℕ) (s : bytesSound b ≡ true) (k : After) where
-  told : (d : Composition) (a : Answer) → record { comp = d; answer = a } ≡ k → a ≡ answerOn b k
+  pub told : (d : Composition) (a : Answer) → record { comp = d; answer = a } ≡ k → a ≡ answerOn b k
   unfolding answerOn
   told d a p = rw (s, ← p) refl
 
-  stays : (r : Refusal) → refusing (compositionOf b) r ≡ k → b ≡ bytesOn b k
+  pub stays : (r : Refusal) → refusing (compositionOf b) r ≡ k → b ≡ bytesOn b k
   unfolding bytesOn answerOn
   stays r p = rw (s, ← p) refl
 
-  becomes : (d : Composition) (n : ℕ) (new : List ℕ) → record { comp = d; answer = Done n } ≡ k → new ≡ bytesOf d → new ≡ bytesOn b k
+  pub becomes : (d : Composition) (n : ℕ) (new : List ℕ) → record { comp = d; answer = Done n } ≡ k → new ≡ bytesOf d → new ≡ bytesOn b k
   unfolding bytesOn answerOn
   becomes d n new p h = rw (s, ← p) h
 
@@ -109,32 +100,14 @@ written : (b : List ℕ) → bytesSound b ≡ true → (w : Outcome) (o new : Li
 unfolding outOn
 written b s w o new h = rw s h
 
--- ---- no cells: the first two bytes stay, and the others are 0
-two : (s : List ℕ) → 2 ≤ length s → take 2 s ≡ byteAt s 0 ∷ byteAt s 1 ∷ []
-two (x ∷ y ∷ r) h = refl
-two (x ∷ []) h = absurd (omega arith)
-two [] h = absurd (omega arith)
+-- a cell, and a cell and the count
+pub cell-in : (b : List ℕ) → ((k : ℕ) → Fits w8 (byteAt b k)) → bytesSound b ≡ true → (i : ℕ) (x : Cell) → i < limit
+    → stored b i x ≡ bytesOf (withCell (compositionOf b) i x)
+cell-in b f s i x h =
+    ap (λ (l : List ℕ). stored l i x) (sym (lent b f s)) ∙ cell-stored (compositionOf b) i x (omega (arith, cells-all b))
 
-first : (s : List ℕ) (a : ℕ) → 2 ≤ length s → take 2 (set s 0 a) ≡ a ∷ byteAt s 1 ∷ []
-first (x ∷ y ∷ r) a h = refl
-first (x ∷ []) a h = absurd (omega arith)
-first [] a h = absurd (omega arith)
-
-second : (s : List ℕ) (a : ℕ) → 2 ≤ length s → take 2 (set s 1 a) ≡ byteAt s 0 ∷ a ∷ []
-second (x ∷ y ∷ r) a h = refl
-second (x ∷ []) a h = absurd (omega arith)
-second [] a h = absurd (omega arith)
-
-cleared : (s new : List ℕ) (x y : ℕ) (m : InputMethod) (o : Mode) → length s ≡ size → take 2 s ≡ x ∷ y ∷ [] → x ≡ methodByte m
-    → y ≡ modeByte o → new ≡ take 2 s ++ (zeros (size - 2) ++ drop size s) → new ≡ bytesOf (empty m o)
-unfolding empty
-cleared s new x y m o l e p q h =
-    let g : length s ≤ size = omega arith in
-    h ∙ rw (e, drop-of-length-le s g, p, q) (emptied m o)
-
--- a cell and the count, one after the other
-pub both-stored : (c : Composition) (b s1 : List ℕ) (i m : ℕ) (x : Cell) → bytesOf c ≡ b → i < length (c .cells) → s1 ≡ stored b i x
-    → set s1 2 m ≡ bytesOf (record { cells = set (c .cells) i x; method = c .method; mode = c .mode; count = m })
+pub both-stored : (c : Composition) (b s1 : List ℕ) (i m : ℕ) (x : Cell) → bytesOf c ≡ b → i < places c → s1 ≡ stored b i x
+    → set s1 2 m ≡ bytesOf (withCount (withCell c i x) m)
 both-stored c b s1 i m x q l h =
     rw (h, ← q) (ap (λ (y : List ℕ). set y 2 m) (cell-stored c i x l) ∙ count-stored _ m)
 
@@ -145,36 +118,35 @@ module _ (b : List ℕ) (v : Bool) (e : v ≡ bytesSound b) (t : not v ≡ false
   whole : true ≡ isSound (compositionOf b)
   whole = sym (sound-composition b s)
 
-  long : length b ≡ size
-  long = sound-size b s
-
   -- ---- the reset
-  reset-leaves : record { comp = empty (compositionOf b .method) (compositionOf b .mode); answer = Done 0 } ≡ resetOn b
+  reset-leaves : record { comp = composed (compositionOf b .settings) []; answer = Done 0 } ≡ resetOn b
   unfolding resetOn resetTo
   reset-leaves = leaving-nothing _ (compositionOf b) _ 0 _ (set-done (compositionOf b) true whole refl) refl
 
   pub reset-told : Done 0 ≡ answerOn b (resetOn b)
   reset-told = told b s (resetOn b) _ (Done 0) reset-leaves
 
-  pub reset-cleared : (new : List ℕ) → new ≡ take 2 b ++ (zeros (size - 2) ++ drop size b) → new ≡ bytesOn b (resetOn b)
-  reset-cleared new h = becomes b s (resetOn b) _ 0 new reset-leaves
-      (cleared b new _ _ _ _ long (two b (omega (arith, long))) (method-field b s _ refl) (mode-field b s _ refl) h)
+  -- no cells, where one byte of the head was stored before
+  emptied : ((k : ℕ) → Fits w8 (byteAt b k)) → (i n : ℕ) (d : Composition) → set (bytesOf (compositionOf b)) i n ≡ bytesOf d
+      → cleared (set b i n) ≡ bytesOf (composed (d .settings) [])
+  emptied f i n d e = ap (λ (x : List ℕ). cleared (set x i n)) (sym (lent b f s)) ∙ ap cleared e ∙ cells-cleared d
+
+  pub reset-cleared : ((k : ℕ) → Fits w8 (byteAt b k)) → (new : List ℕ) → new ≡ cleared b → new ≡ bytesOn b (resetOn b)
+  reset-cleared f new h = becomes b s (resetOn b) _ 0 new reset-leaves
+      (h ∙ ap cleared (sym (lent b f s)) ∙ cells-cleared (compositionOf b))
 
   -- ---- the method
   module _ (n : ℕ) (l : n ≤ 1) where
-    method-leaves : record { comp = empty (methodOf n) (compositionOf b .mode); answer = Done 0 } ≡ methodOn b n
+    method-leaves : record { comp = composed (withMethod (compositionOf b .settings) (methodOf n)) []; answer = Done 0 } ≡ methodOn b n
     unfolding methodOn orUnsound methodSet
     method-leaves = rw (le-leb n 1 l) (leaving-nothing _ (compositionOf b) _ 0 _ (set-done (compositionOf b) true whole refl) refl)
 
     pub method-told : Done 0 ≡ answerOn b (methodOn b n)
     method-told = told b s (methodOn b n) _ (Done 0) method-leaves
 
-    pub method-cleared : (new : List ℕ)
-        → new ≡ take 2 (set b 0 n) ++ (zeros (size - 2) ++ drop size (set b 0 n))
-        → new ≡ bytesOn b (methodOn b n)
-    method-cleared new h = becomes b s (methodOn b n) _ 0 new method-leaves
-        (cleared (set b 0 n) new _ _ _ _ (set-size b 0 n long) (first b n (omega (arith, long))) (sym (method-forth n l))
-        (mode-field b s _ refl) h)
+    pub method-cleared : ((k : ℕ) → Fits w8 (byteAt b k)) → (new : List ℕ) → new ≡ cleared (set b 0 n) → new ≡ bytesOn b (methodOn b n)
+    method-cleared f new h = becomes b s (methodOn b n) _ 0 new method-leaves
+        (h ∙ emptied f 0 n _ (method-stored (compositionOf b) (methodOf n) n (sym (method-forth n l))))
 
     -- ---- the mode
     mode-leaves : (d : Composition) → ((on : Bool) → eqb n 0 ≡ on → d ≡ turned (compositionOf b) on)
@@ -185,12 +157,11 @@ module _ (b : List ℕ) (v : Bool) (e : v ≡ bytesSound b) (t : not v ≡ false
 
     module _ (z : n ≡ 0) where
       vietnamese-leaves : record {
-        comp = record
-            { cells = compositionOf b .cells; method = compositionOf b .method; mode = Vietnamese; count = compositionOf b .count };
+        comp = withSettings (compositionOf b) (withMode (compositionOf b .settings) Vietnamese);
         answer = Done 0;
       }
           ≡ modeOn b n
-      vietnamese-leaves = mode-leaves _ (λ on q. turned-on (compositionOf b) on (rw (sym q ∙ eq-eqb n 0 z) refl))
+      vietnamese-leaves = mode-leaves _ (λ on q. turned-on (compositionOf b) true whole on refl (rw (sym q ∙ eq-eqb n 0 z) refl))
 
       pub mode-kept-told : Done 0 ≡ answerOn b (modeOn b n)
       mode-kept-told = told b s (modeOn b n) _ (Done 0) vietnamese-leaves
@@ -200,18 +171,15 @@ module _ (b : List ℕ) (v : Bool) (e : v ≡ bytesSound b) (t : not v ≡ false
           (ap (λ (x : List ℕ). set x 1 n) (sym (lent b f s)) ∙ mode-stored (compositionOf b) Vietnamese n z)
 
     module _ (z : n ≡ 0 → ⊥) where
-      english-leaves : record { comp = empty (compositionOf b .method) English; answer = Done 0 } ≡ modeOn b n
+      english-leaves : record { comp = composed (withMode (compositionOf b .settings) English) []; answer = Done 0 } ≡ modeOn b n
       english-leaves = mode-leaves _ (λ on q. turned-off (compositionOf b) _ on (rw (sym q ∙ ne-eqb n 0 z) refl) refl)
 
       pub mode-told : Done 0 ≡ answerOn b (modeOn b n)
       mode-told = told b s (modeOn b n) _ (Done 0) english-leaves
 
-      pub mode-cleared : (new : List ℕ)
-          → new ≡ take 2 (set b 1 n) ++ (zeros (size - 2) ++ drop size (set b 1 n))
-          → new ≡ bytesOn b (modeOn b n)
-      mode-cleared new h = becomes b s (modeOn b n) _ 0 new english-leaves
-          (cleared (set b 1 n) new _ _ _ English (set-size b 1 n long) (second b n (omega (arith, long))) (method-field b s _ refl)
-          (omega arith) h)
+      pub mode-cleared : ((k : ℕ) → Fits w8 (byteAt b k)) → (new : List ℕ) → new ≡ cleared (set b 1 n) → new ≡ bytesOn b (modeOn b n)
+      mode-cleared f new h = becomes b s (modeOn b n) _ 0 new english-leaves
+          (h ∙ emptied f 1 n _ (mode-stored (compositionOf b) English n (omega arith)))
 
   -- ---- the literal
   module _ (ch : ℕ) (u : Bool) (a : u ≡ inAlphabet ch) where
@@ -241,12 +209,7 @@ module _ (b : List ℕ) (v : Bool) (e : v ≡ bytesSound b) (t : not v ≡ false
 
       module _ (l : n < limit) (x : Cell) (q : x ≡ typed ch) where
         literal-leaves : record {
-          comp = record {
-            cells = set (compositionOf b .cells) n x;
-            method = compositionOf b .method;
-            mode = compositionOf b .mode;
-            count = n + 1;
-          };
+          comp = withCount (withCell (compositionOf b) n x) (n + 1);
           answer = Done 0;
         } ≡ literalOn b ch
         unfolding literalOn literal
@@ -276,7 +239,7 @@ module _ (b : List ℕ) (v : Bool) (e : v ≡ bytesSound b) (t : not v ≡ false
     unfolding textOn
     text-told l = rw s (text-done (compositionOf b) true whole refl (length o) n (rw (← p) l) p)
 
-    pub text-written : (new : List ℕ) → n ≤ length o → new ≡ textOf (take n (compositionOf b .cells)) ++ drop n o
+    pub text-written : (new : List ℕ) → n ≤ length o → new ≡ textOf (firstCells (compositionOf b) n) ++ drop n o
         → new ≡ outOn b (textOutcome (compositionOf b)) o
     unfolding used
     text-written new l h = written b s _ o new (text-done-out (compositionOf b) true whole refl o new (rw (← p) l) (rw (← p) h))
@@ -316,12 +279,7 @@ module _ (b : List ℕ) (v : Bool) (e : v ≡ bytesSound b) (t : not v ≡ false
 
       module _ (l : n - 1 ≤ length o) where
         removal-leaves : (x : Cell) → x ≡ blank → record {
-          comp = record {
-            cells = set (compositionOf b .cells) (n - 1) x;
-            method = compositionOf b .method;
-            mode = compositionOf b .mode;
-            count = n - 1;
-          };
+          comp = withCount (withCell (compositionOf b) (n - 1) x) (n - 1);
           answer = Done (n - 1);
         } ≡ removalOn b o
         unfolding removalOn
@@ -331,28 +289,22 @@ module _ (b : List ℕ) (v : Bool) (e : v ≡ bytesSound b) (t : not v ≡ false
         removal-told = told b s (removalOn b o) _ (Done (n - 1)) (removal-leaves blank refl)
 
         module _ (x : Cell) (y : x ≡ blank) (s1 : List ℕ) (f : (k : ℕ) → Fits w8 (byteAt b k)) (h : s1 ≡ stored b (n - 1) x) where
-          removal-bytes : set s1 2 (n - 1) ≡ bytesOf (record {
-            cells = set (compositionOf b .cells) (n - 1) x;
-            method = compositionOf b .method;
-            mode = compositionOf b .mode;
-            count = n - 1;
-          })
+          removal-bytes : set s1 2 (n - 1) ≡ bytesOf (withCount (withCell (compositionOf b) (n - 1) x) (n - 1))
           removal-bytes = both-stored (compositionOf b) b s1 (n - 1) (n - 1) x (lent b f s)
               (omega (arith, cells-all b, few b n v p e t)) h
 
           pub removal-stored : set s1 2 (n - 1) ≡ bytesOn b (removalOn b o)
           removal-stored = becomes b s (removalOn b o) _ (n - 1) _ (removal-leaves x y) removal-bytes
 
-          cells-now : compositionOf (set s1 2 (n - 1)) .cells ≡ set (compositionOf b .cells) (n - 1) x
-          cells-now = ap (λ (q : List ℕ). compositionOf q .cells) removal-bytes
-              ∙ ap (λ (q : Composition). q .cells) (read-written _ (length-set (compositionOf b .cells) (n - 1) x ∙ cells-all b))
+          now-is : compositionOf (set s1 2 (n - 1)) ≡ withCount (withCell (compositionOf b) (n - 1) x) (n - 1)
+          now-is = ap compositionOf removal-bytes ∙ read-written _ (length-set (compositionOf b .cells) (n - 1) x ∙ cells-all b)
 
-          pub removal-written : (new : List ℕ) → new ≡ textOf (take (n - 1) (compositionOf (set s1 2 (n - 1)) .cells)) ++ drop (n - 1) o
+          pub removal-written : (new : List ℕ) → new ≡ textOf (firstCells (compositionOf (set s1 2 (n - 1))) (n - 1)) ++ drop (n - 1) o
               → new ≡ outOn b (removalOutcome (compositionOf b)) o
           unfolding used
           removal-written new q =
               written b s _ o new
-              (removal-done-out (compositionOf b) true whole refl some o new x y (rw (← p) l) (rw (← p) (rw cells-now at q)))
+              (removal-done-out (compositionOf b) true whole refl some o new x y (rw (← p) l) (rw (← p) (rw now-is at q)))
 
 pub ruleset modes = (mode-kept-told, mode-kept-bytes, mode-told, mode-cleared)
 

@@ -4,7 +4,7 @@ use mathlib.Core.Path.{_≡_, refl, sym, ap, _∙_}
 use mathlib.Core.Bool.{Bool, true, false, not}
 use mathlib.Core.List.{List, [], _∷_, _++_, map}
 use native.Mathlib.Omega.{arith}
-use lib.ListN.{length, getD, take, drop, set, length-set}
+use lib.ListN.{length, take, drop, set, length-set}
 use borrow.Author.Tests.{lt-ltb, le-ltb, not-true}
 use mir.Syntax.{w8}
 use mir.Val.{Fits}
@@ -12,81 +12,77 @@ use Rattle.p0_refusals.specs.declared.Answer.the-variants.{Done, Refused}
 use Rattle.p0_refusals.specs.declared.Refusal.{Refusal}
 use Rattle.p0_refusals.specs.declared.Refusal.the-variants.{Foreign, Full, Short}
 use Rattle.p1_letters.specs.Alphabet.{inAlphabet, asciiLower}
-use Rattle.p2_input_method.specs.declared.InputMethod.{InputMethod}
 use Rattle.p3_acts.specs.Mirror.{acts}
 use Rattle.p3_acts.proofs.Idle.{idle-step}
-use Rattle.p3_cells.specs.Cells.{limit, blank, used}
+use Rattle.p3_cells.specs.Cells.{limit, used}
 use Rattle.p3_cells.specs.Leaving.{leaving}
-use Rattle.p3_cells.specs.Mirror.{rowCells}
+use Rattle.p3_cells.specs.Mirror.{cellOf, firstCells, withCell, rowCells}
 use Rattle.p3_cells.specs.Row.{bases}
-use Rattle.p3_cells.specs.Text.{shown, textOf}
+use Rattle.p3_cells.specs.Text.{textOf}
 use Rattle.p3_cells.specs.declared.Cell.{Cell}
 use Rattle.p3_cells.specs.declared.Composition.{Composition}
 use Rattle.p3_cells.specs.declared.Mode.{Mode}
 use Rattle.p3_cells.specs.declared.Mode.the-variants.{Vietnamese, English}
+use Rattle.p3_cells.specs.declared.Settings.{Settings}
 use Rattle.p3_cells.proofs.Fill.{Filled, fill-none, fill-more, filled}
 use Rattle.p3_cells.proofs.Holding.{used-length, used-cells}
 use Rattle.p3_cells.proofs.Row.{row-length, bases-length}
 use Rattle.p3_key.specs.Process.{keyOutcome, keyed}
-use Rattle.p3_key.specs.Mirror.{letterFor, noStroke, passStroke, stepStroke, strokeOf}
+use Rattle.p3_key.specs.Mirror.{letterFor, noStroke, wrote, wroteKey, passStroke, stepStroke, strokeOf}
 use Rattle.p3_key.specs.declared.Stroke.{Stroke}
 use Rattle.p3_key.proofs.Frame.{english-stays}
 use Rattle.p3_key.proofs.Letters.{lettersTo, no-letters-yet}
-use Rattle.p3_key.proofs.Right.{stroked, Right, stroke-right}
+use Rattle.p3_key.proofs.Right.{stroked, Right, stroke-right, letters-vietnamese}
 use Rattle.p3_key.proofs.Strokes.{step-full, step-short, step-done, stroke-foreign, stroke-step, stroke-pass}
 use Rattle.p3_step.specs.Key.{keyCells}
-use Rattle.p3_step.specs.Mirror.{stepOf, putCell, alsoCell}
-use Rattle.p3_step.specs.declared.Change.the-variants.{Nothing, Append}
+use Rattle.p3_step.specs.Mirror.{appendsAt, stepOf, putCell, alsoCell, alsoPut}
 use Rattle.p3_step.specs.declared.Step.{Step}
-use Rattle.p3_step.proofs.Makes.{Makes, step-makes}
+use Rattle.p3_step.proofs.Makes.{stepped, still-same, Makes, step-makes}
 use Rattle.p3_step.proofs.Same.{step-same}
-use Rattle.p6_bytes.specs.Bytes.{methodByte, modeByte, byteAt, bytesOf, compositionOf, methodOf, bytesSound}
+use Rattle.p6_bytes.specs.Bytes.{modeByte, bytesOf, compositionOf, bytesSound}
+use Rattle.p6_zeros.specs.Zeros.{byteAt}
 use Rattle.p6_bytes.specs.Mirror.{stored}
-use Rattle.p6_bytes.proofs.Round.{read-written, method-back}
+use Rattle.p6_bytes.proofs.Round.{read-written}
 use Rattle.p6_bytes.proofs.Sound.{sound-composition}
-use Rattle.p6_bytes.proofs.Stored.{cells-all, cell-stored, lent}
+use Rattle.p6_bytes.proofs.Stored.{cells-all, lent}
 use Rattle.p6_composition.specs.Calls.{answerOn, bytesOn, outOn, keyOn}
-use Rattle.p6_composition.specs.Mirror.{putOn, applied}
+use Rattle.p6_composition.specs.Mirror.{applied}
 use Rattle.p6_composition.proofs.Calls.{ok-sound}
-use Rattle.p6_composition.proofs.InPlace.{both-stored}
+use Rattle.p6_composition.proofs.InPlace.{cell-in, both-stored}
 
 -- ---- the loop of the row
-pub fill-start : (b row : List ℕ) → Filled (compositionOf b .cells) row 0
-fill-start b row = fill-none (compositionOf b .cells) row
+pub fill-start : (b row : List ℕ) → Filled (compositionOf b) row 0
+fill-start b row = fill-none (compositionOf b) row
 
-pub fill-on : (b row₀ row : List ℕ) (i n : ℕ) (x : Cell) → Filled (compositionOf b .cells) row i → i < n → n ≤ limit → n ≤ length row₀
-    → length row ≡ length row₀ → x ≡ getD (compositionOf b .cells) i blank
-    → Filled (compositionOf b .cells) (set row i (x .base)) (i + 1)
+pub fill-on : (b row₀ row : List ℕ) (i n : ℕ) (x : Cell) → Filled (compositionOf b) row i → i < n → n ≤ limit → n ≤ length row₀
+    → length row ≡ length row₀ → x ≡ cellOf (compositionOf b) i
+    → Filled (compositionOf b) (set row i (x .base)) (i + 1)
 fill-on b row₀ row i n x f h l m k e =
     let a = cells-all b in
-    fill-more (compositionOf b .cells) row i (x .base) f (ap (λ (y : Cell). y .base) e) (omega arith) (omega arith)
+    fill-more (compositionOf b) row i (x .base) f (ap (λ (y : Cell). y .base) e) (omega arith) (omega arith)
 
-pub fill-done : (b row : List ℕ) (i n : ℕ) → Filled (compositionOf b .cells) row i → i ≤ n → n ≤ i
-    → take n row ≡ bases (take n (compositionOf b .cells))
-fill-done b row i n f l h = let z : i ≡ n = omega arith in rw z at (filled (compositionOf b .cells) row i f)
+pub fill-done : (b row : List ℕ) (i n : ℕ) → Filled (compositionOf b) row i → i ≤ n → n ≤ i
+    → take n row ≡ bases (firstCells (compositionOf b) n)
+fill-done b row i n f l h = let z : i ≡ n = omega arith in rw z at (filled (compositionOf b) row i f)
 
 -- ---- the step
-module _ (b : List ℕ) (s : bytesSound b ≡ true) (m : InputMethod) (k n : ℕ) (p : n ≡ compositionOf b .count) where
+module _ (b : List ℕ) (s : bytesSound b ≡ true) (z : Settings) (k n : ℕ) (p : n ≡ compositionOf b .count) where
   row-long : length (rowCells (bases (used (compositionOf b)))) ≡ n
   row-long = row-length (bases (used (compositionOf b))) ∙ bases-length (used (compositionOf b))
       ∙ used-length (compositionOf b) (sound-composition b s) ∙ sym p
 
-  pub idle-on : (v : Bool) → v ≡ acts m k → not v ≡ true
-      → record { change = Append; at = n; also = n; mark = 0; count = n + 1 } ≡ stepOf m (rowCells (bases (used (compositionOf b)))) k
-  idle-on v e t = idle-step m k (sym e ∙ not-true v t) (rowCells (bases (used (compositionOf b)))) n row-long
+  pub idle-on : (v : Bool) → v ≡ acts (z .method) k → not v ≡ true
+      → appendsAt n ≡ stepOf z (rowCells (bases (used (compositionOf b)))) k
+  idle-on v e t = idle-step z k (sym e ∙ not-true v t) (rowCells (bases (used (compositionOf b)))) n row-long
 
-  pub row-on : (row part : List ℕ) (r : Step) → take n row ≡ bases (take n (compositionOf b .cells)) → part ≡ take (n - 0) (drop 0 row)
-      → r ≡ stepOf m (rowCells part) k → r ≡ stepOf m (rowCells (bases (used (compositionOf b)))) k
+  pub row-on : (row part : List ℕ) (r : Step) → take n row ≡ bases (firstCells (compositionOf b) n) → part ≡ take (n - 0) (drop 0 row)
+      → r ≡ stepOf z (rowCells part) k → r ≡ stepOf z (rowCells (bases (used (compositionOf b)))) k
   unfolding used
   row-on row part r f g h =
       let d : n - 0 ≡ n = omega arith in
-      h ∙ ap (λ (x : List ℕ). stepOf m (rowCells x) k) (g ∙ rw d (f ∙ rw p refl))
+      h ∙ ap (λ (x : List ℕ). stepOf z (rowCells x) k) (g ∙ rw d (f ∙ rw p refl))
 
--- ---- the method and the mode
-pub method-is : (b : List ℕ) (n : ℕ) (m : InputMethod) → n ≡ methodByte (compositionOf b .method) → m ≡ methodOf n
-    → m ≡ compositionOf b .method
-method-is b n m p e = e ∙ ap methodOf p ∙ method-back (compositionOf b .method)
-
+-- ---- the mode
 english : (m : Mode) (o : ℕ) → o ≡ modeByte m → o ≡ 1 → m ≡ English
 english English o p e = refl
 english Vietnamese o p e = absurd (omega arith)
@@ -95,30 +91,18 @@ vietnamese : (m : Mode) (o : ℕ) → o ≡ modeByte m → (o ≡ 1 → ⊥) →
 vietnamese Vietnamese o p e = refl
 vietnamese English o p e = absurd (e p)
 
--- ---- three stores
-three-stored : (c : Composition) (b s1 s2 : List ℕ) (i j m : ℕ) (x y : Cell) → bytesOf c ≡ b → i < length (c .cells) → j < length (c .cells)
-    → s1 ≡ stored b i x → s2 ≡ stored s1 j y
-    → set s2 2 m ≡ bytesOf (record { cells = set (set (c .cells) i x) j y; method = c .method; mode = c .mode; count = m })
-three-stored c b s1 s2 i j m x y q k l f g =
-    both-stored (record { cells = set (c .cells) i x; method = c .method; mode = c .mode; count = c .count }) s1 s2 j m y
-    (sym (f ∙ rw (← q) (cell-stored c i x k))) (rw (length-set (c .cells) i x) l) g
-
 -- ---- the letters
-one-letter : (m : Mode) (key : ℕ) (cells : List Cell) (o : List ℕ) → m ≡ English → 0 < length cells → 1 ≤ length o
-    → set o 0 key ≡ lettersTo m key cells 1 o
-unfolding lettersTo letterFor
-one-letter m key [] o e h l = absurd (omega arith)
-one-letter m key (x ∷ xs) [] e h l = absurd (omega arith)
-one-letter m key (x ∷ xs) (y ∷ o) e h l = rw e refl
+one-letter : (key : ℕ) (cells : List Cell) (o : List ℕ) → 0 < length cells → 1 ≤ length o
+    → set o 0 key ≡ map (letterFor English key) (take 1 cells) ++ drop 1 o
+unfolding letterFor
+one-letter key [] o h l = absurd (omega arith)
+one-letter key (x ∷ xs) [] h l = absurd (omega arith)
+one-letter key (x ∷ xs) (y ∷ o) h l = refl
 
-all-letters : (m : Mode) (key : ℕ) (cells : List Cell) (n : ℕ) (o : List ℕ) → m ≡ Vietnamese
-    → textOf (take n cells) ++ drop n o ≡ lettersTo m key cells n o
-unfolding lettersTo letterFor textOf
-all-letters m key cells n o e = rw e (ap (λ (l : List ℕ). l ++ drop n o) (go (take n cells)))
-  where
-    go : (xs : List Cell) → map shown xs ≡ map (letterFor Vietnamese key) xs
-    go [] = refl
-    go (x ∷ xs) = ap (λ (l : List ℕ). shown x ∷ l) (go xs)
+all-letters : (m : Mode) (key : ℕ) (c : Composition) (n : ℕ) (o : List ℕ) → m ≡ Vietnamese
+    → textOf (firstCells c n) ++ drop n o ≡ lettersTo m key c n o
+unfolding lettersTo
+all-letters m key c n o e = ap (λ (l : List ℕ). l ++ drop n o) (sym (letters-vietnamese m key (firstCells c n) e))
 
 -- ---- what is told and left, where the key's stroke is e
 module _ (b : List ℕ) (v : Bool) (e : v ≡ bytesSound b) (t : not v ≡ false) (key : ℕ) (o : List ℕ) where
@@ -126,7 +110,7 @@ module _ (b : List ℕ) (v : Bool) (e : v ≡ bytesSound b) (t : not v ≡ false
   s = ok-sound b v e t
 
   abbrev IsStroke : Stroke → Type 0
-  IsStroke d = d ≡ strokeOf true (compositionOf b .method) (compositionOf b .mode) (rowCells (bases (used (compositionOf b)))) key
+  IsStroke d = d ≡ strokeOf true (compositionOf b .settings) (rowCells (bases (used (compositionOf b)))) key
       (compositionOf b .count) (length o)
 
   right : (d : Stroke) → IsStroke d → Right (compositionOf b) key o d
@@ -144,13 +128,13 @@ module _ (b : List ℕ) (v : Bool) (e : v ≡ bytesSound b) (t : not v ≡ false
   refused-stays r q = rw (← refused-told r q) refl
 
   letters-out : (d : Stroke) (new : List ℕ) → IsStroke d
-      → new ≡ lettersTo (compositionOf b .mode) key (stroked (compositionOf b) d key .cells) (d .letters) o
+      → new ≡ lettersTo (compositionOf b .settings .mode) key (stroked (compositionOf b) d key) (d .letters) o
       → new ≡ outOn b (keyOutcome (compositionOf b) key) o
   unfolding outOn
   letters-out d new q h = rw s (h ∙ right d q .out)
 
   refused-out : (r : Refusal) → IsStroke (noStroke r (compositionOf b .count)) → o ≡ outOn b (keyOutcome (compositionOf b) key) o
-  refused-out r q = letters-out (noStroke r (compositionOf b .count)) o q (no-letters-yet (compositionOf b .mode) key _ o)
+  refused-out r q = letters-out (noStroke r (compositionOf b .count)) o q (no-letters-yet (compositionOf b .settings .mode) key _ o)
 
   -- a refusal: nothing changes
   abbrev Refuses : Refusal → Type 0
@@ -164,34 +148,26 @@ module _ (b : List ℕ) (v : Bool) (e : v ≡ bytesSound b) (t : not v ≡ false
   module _ (u : Bool) (a : u ≡ inAlphabet key) where
     module _ (w : not u ≡ true) where
       foreign : IsStroke (noStroke Foreign (compositionOf b .count))
-      foreign = stroke-foreign true _ _ _ key _ _ _ u refl a w refl
+      foreign = stroke-foreign true _ _ key _ _ _ u refl a w refl
 
       pub foreign-key : Refuses Foreign
       foreign-key = refused Foreign foreign
 
     -- ---- English mode
-    module _ (w : not u ≡ false) (i : ℕ) (h : i ≡ modeByte (compositionOf b .mode)) where
+    module _ (w : not u ≡ false) (i : ℕ) (h : i ≡ modeByte (compositionOf b .settings .mode)) where
       module _ (z : i ≡ 1) where
         module _ (l : length o < 1) where
           no-room : IsStroke (noStroke Short (compositionOf b .count))
           unfolding passStroke
-          no-room = stroke-pass true _ _ _ key _ _ _ u refl a w (english _ i h z) (rw (lt-ltb (length o) 1 l) refl)
+          no-room = stroke-pass true _ _ key _ _ _ u refl a w (english _ i h z) (rw (lt-ltb (length o) 1 l) refl)
 
           pub pass-short : Refuses Short
           pass-short = refused Short no-room
 
         module _ (l : 1 ≤ length o) where
-          passes : IsStroke (record {
-            change = Nothing;
-            at = 0;
-            also = 0;
-            mark = 0;
-            count = compositionOf b .count;
-            letters = 1;
-            answer = Done 1;
-          })
+          passes : IsStroke (wroteKey (compositionOf b .count))
           unfolding passStroke
-          passes = stroke-pass true _ _ _ key _ _ _ u refl a w (english _ i h z) (rw (le-ltb (length o) 1 l) refl)
+          passes = stroke-pass true _ _ key _ _ _ u refl a w (english _ i h z) (rw (le-ltb (length o) 1 l) refl)
 
           pub pass-told : Done 1 ≡ answerOn b (keyOn b key o)
           pass-told = told _ passes
@@ -202,30 +178,29 @@ module _ (b : List ℕ) (v : Bool) (e : v ≡ bytesSound b) (t : not v ≡ false
               rw (← pass-told) (sym (ap bytesOf (english-stays (compositionOf b) key (length o) (english _ i h z)) ∙ lent b f s))
 
           pub pass-out : set o 0 key ≡ outOn b (keyOutcome (compositionOf b) key) o
-          unfolding stroked
+          unfolding lettersTo
           pass-out = letters-out _ (set o 0 key) passes
-              (one-letter (compositionOf b .mode) key _ o (english _ i h z)
-              (rw (length-set, length-set, cells-all b) (omega arith)) l)
+              (rw (still-same (compositionOf b) key (asciiLower key), english (compositionOf b .settings .mode) i h z)
+              (one-letter key (compositionOf b .cells) o (omega (arith, cells-all b)) l))
 
       -- ---- Vietnamese
-      module _ (z : i ≡ 1 → ⊥) (y : ℕ) (m : InputMethod) (k : ℕ) (r : Step) (g : y ≡ methodByte (compositionOf b .method))
-          (g′ : m ≡ methodOf y) (x : k ≡ asciiLower key)
-          (q : r ≡ stepOf m (rowCells (bases (used (compositionOf b)))) k) where
-        step-is : r ≡ stepOf (compositionOf b .method) (rowCells (bases (used (compositionOf b)))) k
-        step-is = q ∙ ap (λ (j : InputMethod). stepOf j (rowCells (bases (used (compositionOf b)))) k) (method-is b y m g g′)
+      module _ (z : i ≡ 1 → ⊥) (y : Settings) (k : ℕ) (r : Step) (g : y ≡ compositionOf b .settings) (x : k ≡ asciiLower key)
+          (q : r ≡ stepOf y (rowCells (bases (used (compositionOf b)))) k) where
+        step-is : r ≡ stepOf (compositionOf b .settings) (rowCells (bases (used (compositionOf b)))) k
+        step-is = q ∙ ap (λ (j : Settings). stepOf j (rowCells (bases (used (compositionOf b)))) k) g
 
         by-step : (d : Stroke) → d ≡ stepStroke r (compositionOf b .count) (length o) → IsStroke d
-        by-step d j = stroke-step true _ _ _ key _ _ d u refl a k r w (vietnamese _ i h z) x step-is j
+        by-step d j = stroke-step true _ _ key _ _ d u refl a k r w (vietnamese _ i h z) x step-is j
 
-        makes : Makes r (used (compositionOf b)) (keyCells (compositionOf b .method) (used (compositionOf b)) key) key (asciiLower key)
+        makes : Makes r (used (compositionOf b)) (keyCells (compositionOf b .settings) (used (compositionOf b)) key) key (asciiLower key)
         makes =
             rw (
               step-is,
               x,
-              step-same (compositionOf b .method) (used (compositionOf b)) (asciiLower key)
+              step-same (compositionOf b .settings) (used (compositionOf b)) (asciiLower key)
                   (used-cells (compositionOf b) (sound-composition b s)),
             )
-            (step-makes (compositionOf b .method) (used (compositionOf b)) key)
+            (step-makes (compositionOf b .settings) (used (compositionOf b)) key)
 
         module _ (l : limit < r .count) where
           full : IsStroke (noStroke Full (compositionOf b .count))
@@ -253,67 +228,45 @@ module _ (b : List ℕ) (v : Bool) (e : v ≡ bytesSound b) (t : not v ≡ false
           places = (place-below, other-below)
 
           module _ (l′ : r .count ≤ length o) where
-            abbrev wrote : Stroke
-            wrote = record {
-              change = r .change;
-              at = r .at;
-              also = r .also;
-              mark = r .mark;
-              count = r .count;
-              letters = r .count;
-              answer = Done (r .count);
-            }
-
-            writes : IsStroke wrote
+            writes : IsStroke (wrote r)
             writes = by-step _ (step-done r (compositionOf b .count) (length o) l l′)
 
             key-told : Done (r .count) ≡ answerOn b (keyOn b key o)
-            key-told = told wrote writes
+            key-told = told (wrote r) writes
 
             module _ (new : List ℕ) (f : (j : ℕ) → Fits w8 (byteAt b j)) (h′ : new ≡ applied b r key k) where
-              abbrev after : Composition
-              after = record {
-                cells = set (set (compositionOf b .cells) (r .at) (putOn b r key k)) (r .also) (alsoCell (r .change) (putOn b r key k));
-                method = compositionOf b .method;
-                mode = compositionOf b .mode;
-                count = r .count;
-              }
-
-              after-is : after ≡ stroked (compositionOf b) wrote key
-              unfolding stroked putOn
+              after-is : stepped r (compositionOf b) key k ≡ stroked (compositionOf b) (wrote r) key
               after-is = rw x refl
 
-              stores : new ≡ bytesOf after
-              unfolding applied
-              stores = h′ ∙ three-stored (compositionOf b) b _ _ (r .at) (r .also) (r .count) (putOn b r key k) _ (lent b f s)
-                  (omega (arith, cells-all b, place-below)) (omega (arith, cells-all b, other-below)) refl refl
+              stores : new ≡ bytesOf (stepped r (compositionOf b) key k)
+              unfolding applied stepped
+              stores = h′ ∙ both-stored (withCell (compositionOf b) (r .also) (alsoPut r (compositionOf b))) _ _ (r .at) (r .count) _
+                  (sym (cell-in b f s (r .also) _ other-below)) (rw length-set (omega (arith, cells-all b, place-below))) refl
 
               key-stored : new ≡ bytesOn b (keyOn b key o)
               unfolding bytesOn keyOn
-              key-stored = rw (← key-told) (stores ∙ ap bytesOf (after-is ∙ right wrote writes .comp))
+              key-stored = rw (← key-told) (stores ∙ ap bytesOf (after-is ∙ right (wrote r) writes .comp))
 
-              cells-now : compositionOf new .cells ≡ stroked (compositionOf b) wrote key .cells
-              cells-now = ap (λ (j : List ℕ). compositionOf j .cells) stores
-                  ∙ ap (λ (d : Composition). d .cells)
-                  (read-written after (length-set (set (compositionOf b .cells) (r .at) (putOn b r key k)) (r .also) _
-                  ∙ length-set (compositionOf b .cells) (r .at) (putOn b r key k) ∙ cells-all b) ∙ after-is)
+              now-is : compositionOf new ≡ stroked (compositionOf b) (wrote r) key
+              unfolding stepped
+              now-is = ap compositionOf stores ∙ read-written _ (rw (length-set, length-set) (cells-all b)) ∙ after-is
 
-              key-written : (text : List ℕ) → text ≡ textOf (take (r .count) (compositionOf new .cells)) ++ drop (r .count) o
+              key-written : (text : List ℕ) → text ≡ textOf (firstCells (compositionOf new) (r .count)) ++ drop (r .count) o
                   → text ≡ outOn b (keyOutcome (compositionOf b) key) o
               key-written text j =
-                  letters-out wrote text writes
-                  (j ∙ ap (λ (d : List Cell). textOf (take (r .count) d) ++ drop (r .count) o) cells-now
-                  ∙ all-letters (compositionOf b .mode) key (stroked (compositionOf b) wrote key .cells) (r .count) o (vietnamese _ i h z))
+                  letters-out (wrote r) text writes
+                  (j ∙ ap (λ (d : Composition). textOf (firstCells d (r .count)) ++ drop (r .count) o) now-is
+                  ∙ all-letters (compositionOf b .settings .mode) key _ (r .count) o (vietnamese _ i h z))
 
-              pub done-key : (text : List ℕ) → text ≡ textOf (take (r .count) (compositionOf new .cells)) ++ drop (r .count) o
+              pub done-key : (text : List ℕ) → text ≡ textOf (firstCells (compositionOf new) (r .count)) ++ drop (r .count) o
                   → (Done (r .count) ≡ answerOn b (keyOn b key o)) × (new ≡ bytesOn b (keyOn b key o))
                   × (text ≡ outOn b (keyOutcome (compositionOf b) key) o)
               done-key text j = (key-told, key-stored, key-written text j)
 
 -- ---- the stores as the code makes them
-pub applied-is : (b s1 s2 : List ℕ) (r : Step) (key k : ℕ) (c1 c2 p1 p2 : Cell) → c1 ≡ getD (compositionOf b .cells) (r .at) blank
-    → c2 ≡ getD (compositionOf b .cells) (r .also) blank → p1 ≡ putCell (r .change) (r .mark) c1 c2 key k → p2 ≡ alsoCell (r .change) p1
-    → s1 ≡ stored b (r .at) p1 → s2 ≡ stored s1 (r .also) p2
+pub applied-is : (b s1 s2 : List ℕ) (r : Step) (key k : ℕ) (c1 c2 p1 p2 : Cell) → c1 ≡ cellOf (compositionOf b) (r .at)
+    → c2 ≡ cellOf (compositionOf b) (r .also) → p1 ≡ putCell (r .change) (r .mark) c1 c2 key k → p2 ≡ alsoCell (r .change) c2
+    → s1 ≡ stored b (r .also) p2 → s2 ≡ stored s1 (r .at) p1
     → set s2 2 (r .count) ≡ applied b r key k
-unfolding applied putOn
+unfolding applied
 applied-is b s1 s2 r key k c1 c2 p1 p2 e1 e2 e3 e4 e5 e6 = rw (e6, e5, e4, e3, e2, e1) refl

@@ -1,84 +1,50 @@
-// The calls on a composition given as bytes, which they find altered there. Each tests the bytes once. Then cells are read
-// and stored where they lie, or the composition is read, the call made by value, and where that is done it is written back;
-// after a refusal not a byte has changed.
+// The calls on a composition given as bytes, which they find altered there. Each tests the bytes once; then cells are read
+// and stored where they lie. After a refusal not a byte has changed.
 ghost use mathlib.Core.Path.{_≡_};
 ghost use mathlib.Core.Bool.{true};
 ghost use mathlib.Core.List.{_++_};
 ghost use Prim.Native.Nat.{_<_, _≤_};
 ghost use lib.ListN.{length, take, drop};
 ghost use Rattle.p3_calls.specs.Output.{textOutcome, removalOutcome};
-ghost use Rattle.p3_cells.specs.Cells.{limit, used, holding};
-ghost use Rattle.p3_cells.specs.Mirror.{rowCells};
+ghost use Rattle.p3_cells.specs.Cells.{limit, used};
+ghost use Rattle.p3_cells.specs.Mirror.{firstCells, rowCells};
 ghost use Rattle.p3_cells.specs.Row.{bases};
 ghost use Rattle.p3_cells.specs.Text.{textOf};
 ghost use Rattle.p3_step.specs.Mirror.{stepOf};
 ghost use Rattle.p3_key.specs.Process.{keyOutcome};
+ghost use Rattle.p3_undo.specs.Mirror.{signs};
+ghost use Rattle.p3_undo.specs.Raw.{rawLowered};
+ghost use Rattle.p3_undo.specs.Undo.{toUndo};
 ghost use Rattle.p6_bytes.specs.Bytes.{size, compositionOf, methodOf, bytesSound};
-ghost use Rattle.p6_composition.specs.Mirror.{applied};
-ghost use Rattle.p6_composition.specs.UndoAnswer.{undoAnswer, undoLeaving};
-ghost use Rattle.p6_composition.specs.Calls.{answerOn, bytesAfter, bytesOn, outOn, keyOn, resetOn, literalOn, removalOn, undoOn};
+ghost use Rattle.p6_composition.specs.Mirror.{applied, foundOn};
+ghost use Rattle.p6_composition.specs.UndoAnswer.{undoAnswer};
+ghost use Rattle.p6_composition.specs.Calls.{answerOn, bytesOn, outOn, keyOn, resetOn, literalOn, removalOn, undoOn};
 ghost use Rattle.p6_composition.specs.Calls.{methodOn, modeOn, textOn, newOn, newBytes};
 use p0_refusals::Answer;
+use p0_refusals::LETTERS;
 use p0_refusals::Refusal;
 use p1_letters as letters;
 use p2_input_method::InputMethod;
-use p3_calls as calls;
 use p3_cells as cells;
-use p3_cells::After;
 use p3_cells::LIMIT;
+use p3_cells::Settings;
 use p3_step as step;
 use p3_step::Change;
 use p3_step::Step;
+use p3_undo as undo;
 use p3_undo::TelexUndo;
-use p3_undo::Undone;
+use p3_undo::Undoing;
 use p6_bytes as bytes;
-
-// ---- undo's answer as the other calls': a number is told, or a refusal
-
-fn undo_answer(u: TelexUndo) -> Answer
-    ensures { λ r. ⌜ r ≡ undoAnswer u ⌝ }
-{
-    match u {
-        TelexUndo::AppendTrigger => Answer::Done(0),
-        TelexUndo::ConsumeTrigger => Answer::Done(1),
-        TelexUndo::Refused(why) => Answer::Refused(why),
-    }
-}
-
-fn undo_leaving(k: Undone) -> After
-    ensures { λ r. ⌜ r ≡ undoLeaving k ⌝ }
-{
-    let d = k.comp;
-    let a = k.answer;
-    let answer = undo_answer(a);
-    After { comp: d, answer }
-}
-
-// Writes the composition back where the call is done.
-fn finish(k: After, state: &mut [u8]) -> Answer
-    requires { ⌜ (length (now state) ≡ size) × (k .comp ≡ holding (k .comp) (used (k .comp))) ⌝ }
-    ensures { λ r. ⌜ (r ≡ k .answer) × (now (state .exit) ≡ bytesAfter (k .answer) (now (state .entry)) (k .comp)) ⌝ }
-{
-    let a = k.answer;
-    match a {
-        Answer::Done(n) => {
-            let d = k.comp;
-            bytes::encode(d, state);
-            Answer::Done(n)
-        }
-        Answer::Refused(why) => Answer::Refused(why),
-    }
-}
+use p6_zeros as zeros;
 
 // The text of the first n cells, from the start of an output that has room for it.
 fn text(b: &[u8], n: usize, out: &mut [u32])
     requires { ⌜ (length (now b) ≡ size) × (n ≤ limit) × (n ≤ length (now out)) ⌝ }
-    ensures { λ _. ⌜ now (out .exit) ≡ textOf (take n (compositionOf (now (b .entry)) .cells)) ++ drop n (now (out .entry)) ⌝ }
+    ensures { λ _. ⌜ now (out .exit) ≡ textOf (firstCells (compositionOf (now (b .entry))) n) ++ drop n (now (out .entry)) ⌝ }
 {
     let mut i: usize = 0;
     while i < n {
-        let x = bytes::cell(b, i);
-        out[i] = cells::shown(x);
+        out[i] = bytes::shown(b, i);
         i += 1;
     }
 }
@@ -88,7 +54,7 @@ fn text(b: &[u8], n: usize, out: &mut [u32])
 // The bases of the first n cells, from the start of a row.
 fn fill(b: &[u8], n: usize, row: &mut [u32])
     requires { ⌜ (length (now b) ≡ size) × (n ≤ limit) × (n ≤ length (now row)) ⌝ }
-    ensures { λ _. ⌜ take n (now (row .exit)) ≡ bases (take n (compositionOf (now (b .entry)) .cells)) ⌝ }
+    ensures { λ _. ⌜ take n (now (row .exit)) ≡ bases (firstCells (compositionOf (now (b .entry))) n) ⌝ }
 {
     let mut i: usize = 0;
     while i < n {
@@ -99,10 +65,11 @@ fn fill(b: &[u8], n: usize, row: &mut [u32])
 }
 
 // The step of a key in lower case. For one that does not act there is no row.
-fn step_on(b: &[u8], m: InputMethod, k: u32, n: usize) -> Step
+fn step_on(b: &[u8], z: Settings, k: u32, n: usize) -> Step
     requires { ⌜ (bytesSound (now b) ≡ true) × (n ≡ compositionOf (now b) .count) × (n ≤ limit) ⌝ }
-    ensures { λ r. ⌜ r ≡ stepOf m (rowCells (bases (used (compositionOf (now (b .entry)))))) k ⌝ }
+    ensures { λ r. ⌜ r ≡ stepOf z (rowCells (bases (used (compositionOf (now (b .entry)))))) k ⌝ }
 {
+    let m = z.method;
     if !p3_acts::acts(m, k) {
         return Step {
             change: Change::Append,
@@ -114,7 +81,7 @@ fn step_on(b: &[u8], m: InputMethod, k: u32, n: usize) -> Step
     }
     let mut row = [0u32; LIMIT];
     fill(b, n, &mut row);
-    step::first_step(m, &row[0..n], k)
+    step::first_step(z, &row[0..n], k)
 }
 
 // Stores the cells of a step, and the count.
@@ -128,9 +95,9 @@ fn apply(b: &mut [u8], s: Step, key: u32, k: u32)
     let x = bytes::cell(b, i);
     let y = bytes::cell(b, j);
     let p = step::put_cell(change, s.mark, x, y, key, k);
-    let q = step::also_cell(change, p);
-    bytes::store(b, i, p);
+    let q = step::also_cell(change, y);
     bytes::store(b, j, q);
+    bytes::store(b, i, p);
     b[2] = s.count as u8;
 }
 
@@ -153,9 +120,9 @@ pub fn process_key(state: &mut [u8], key: u32, out: &mut [u32]) -> Answer
         out[0] = key;
         return Answer::Done(1);
     }
-    let m = method_of(bytes::method_number(state));
+    let z = bytes::settings(state);
     let k = letters::ascii_lower(key);
-    let s = step_on(state, m, k, bytes::cell_count(state));
+    let s = step_on(state, z, k, bytes::cell_count(state));
     let count = s.count;
     if LIMIT < count {
         return Answer::Refused(Refusal::Full);
@@ -177,7 +144,7 @@ pub fn reset(state: &mut [u8]) -> Answer
     if !bytes::bytes_ok(state) {
         return Answer::Refused(Refusal::Unsound);
     }
-    bytes::put_zeros(state, 2, bytes::SIZE);
+    bytes::clear(state);
     Answer::Done(0)
 }
 
@@ -224,19 +191,6 @@ pub fn pop_last(state: &mut [u8], out: &mut [u32]) -> Answer
     Answer::Done(m)
 }
 
-pub fn undo_telex_transform(state: &mut [u8], trigger: u32, raw: &[u32]) -> Answer
-    ensures { λ r. ⌜ (r ≡ answerOn (now (state .entry)) (undoOn (now (state .entry)) trigger (now (raw .entry))))
-        × (now (state .exit) ≡ bytesOn (now (state .entry)) (undoOn (now (state .entry)) trigger (now (raw .entry)))) ⌝ }
-{
-    if !bytes::bytes_ok(state) {
-        return Answer::Refused(Refusal::Unsound);
-    }
-    let c = bytes::decode(state);
-    let u = p3_undo::undo_telex_transform(c, trigger, raw);
-    let k = undo_leaving(u);
-    finish(k, state)
-}
-
 pub fn get_output(state: &[u8], out: &mut [u32]) -> Answer
     ensures { λ r. ⌜ (r ≡ textOn (now (state .entry)) (length (now (out .entry))))
         × (now (out .exit) ≡ outOn (now (state .entry)) (textOutcome (compositionOf (now (state .entry)))) (now (out .entry))) ⌝ }
@@ -250,6 +204,90 @@ pub fn get_output(state: &[u8], out: &mut [u32]) -> Answer
     }
     text(state, n, out);
     Answer::Done(n)
+}
+
+// ---- undo
+
+// The signs of the first n cells, from the start of a row.
+fn fill_signs(b: &[u8], n: usize, row: &mut [u32])
+    requires { ⌜ (length (now b) ≡ size) × (n ≤ limit) × (n ≤ length (now row)) ⌝ }
+    ensures { λ _. ⌜ take n (now (row .exit)) ≡ signs (firstCells (compositionOf (now (b .entry))) n) ⌝ }
+{
+    let mut i: usize = 0;
+    while i < n {
+        let x = bytes::cell(b, i);
+        row[i] = undo::sign(x);
+        i += 1;
+    }
+}
+
+// What a trigger in lower case is to undo.
+fn undo_on(b: &[u8], n: usize, raw: &[u32], t: u32) -> Undoing
+    requires { ⌜ (bytesSound (now b) ≡ true) × (n ≡ compositionOf (now b) .count) × (n ≤ limit) ⌝ }
+    ensures { λ r. ⌜ r ≡ toUndo (compositionOf (now (b .entry)) .settings .method) (used (compositionOf (now (b .entry))))
+        (rawLowered (now (raw .entry))) t ⌝ }
+{
+    let z = bytes::settings(b);
+    let m = z.method;
+    let mut row = [0u32; LIMIT];
+    fill_signs(b, n, &mut row);
+    undo::to_undo(m, &row[0..n], raw, t)
+}
+
+// The other calls' answer: a number is told, or a refusal.
+fn undo_answer(u: TelexUndo) -> Answer
+    ensures { λ r. ⌜ r ≡ undoAnswer u ⌝ }
+{
+    match u {
+        TelexUndo::AppendTrigger => Answer::Done(0),
+        TelexUndo::ConsumeTrigger => Answer::Done(1),
+        TelexUndo::Refused(why) => Answer::Refused(why),
+    }
+}
+
+// Stores what is found.
+fn undo_found(state: &mut [u8], n: usize, raw: &[u32], t: u32) -> Answer
+    requires { ⌜ (bytesSound (now state) ≡ true) × (n ≡ compositionOf (now state) .count) × (n ≤ limit) ⌝ }
+    ensures { λ r. ⌜ (r ≡ answerOn (now (state .entry)) (foundOn (now (state .entry)) (now (raw .entry)) t))
+        × (now (state .exit) ≡ bytesOn (now (state .entry)) (foundOn (now (state .entry)) (now (raw .entry)) t)) ⌝ }
+{
+    let u = undo_on(state, n, raw, t);
+    match u {
+        Undoing::Nothing => Answer::Refused(Refusal::NoUndo),
+        Undoing::Tone(i) => {
+            let x = bytes::cell(state, i);
+            let y = undo::tone_lost(x);
+            bytes::store(state, i, y);
+            Answer::Done(0)
+        }
+        Undoing::Mark(i, r) => {
+            let x = bytes::cell(state, i);
+            let y = undo::restored(r.first, x);
+            bytes::store(state, i, y);
+            let w = undo::behaviour(r);
+            undo_answer(w)
+        }
+    }
+}
+
+pub fn undo_telex_transform(state: &mut [u8], trigger: u32, raw: &[u32]) -> Answer
+    ensures { λ r. ⌜ (r ≡ answerOn (now (state .entry)) (undoOn (now (state .entry)) trigger (now (raw .entry))))
+        × (now (state .exit) ≡ bytesOn (now (state .entry)) (undoOn (now (state .entry)) trigger (now (raw .entry)))) ⌝ }
+{
+    if !bytes::bytes_ok(state) {
+        return Answer::Refused(Refusal::Unsound);
+    }
+    if LETTERS < raw.len() {
+        return Answer::Refused(Refusal::Long);
+    }
+    if !letters::in_alphabet(trigger) {
+        return Answer::Refused(Refusal::Foreign);
+    }
+    if !letters::all_letters(raw) {
+        return Answer::Refused(Refusal::Foreign);
+    }
+    let t = letters::ascii_lower(trigger);
+    undo_found(state, bytes::cell_count(state), raw, t)
 }
 
 // ---- methods and modes by their numbers
@@ -274,7 +312,7 @@ pub fn set_method(state: &mut [u8], method: u32) -> Answer
         return Answer::Refused(Refusal::Unsound);
     }
     state[0] = method as u8;
-    bytes::put_zeros(state, 2, bytes::SIZE);
+    bytes::clear(state);
     Answer::Done(0)
 }
 
@@ -292,7 +330,7 @@ pub fn set_mode(state: &mut [u8], mode: u32) -> Answer
     if mode == 0 {
         return Answer::Done(0);
     }
-    bytes::put_zeros(state, 2, bytes::SIZE);
+    bytes::clear(state);
     Answer::Done(0)
 }
 
@@ -306,8 +344,7 @@ pub fn new(state: &mut [u8], method: u32) -> Answer
     if 1 < method {
         return Answer::Refused(Refusal::Unsound);
     }
-    let m = method_of(method);
-    let c = calls::new(m);
-    bytes::encode(c, state);
+    state[0] = method as u8;
+    zeros::put_zeros(state, 1, bytes::SIZE);
     Answer::Done(0)
 }

@@ -17,6 +17,5 @@ told Means o g out r k old a t = (
   a .1,
   told-number g (answer (a .0) (length o)) r (a .2) (t .0),
   a .3,
-  told-count g (answer (a .0) (length o)) k old (a .2)
-      (t .1),
+  told-count g (answer (a .0) (length o)) k old (a .2) (t .1),
 )

@@ -45,7 +45,7 @@ pub extern "C" fn pasdrongel_check_composition(state: &[u8]) -> u32
 #[no_mangle]
 pub extern "C" fn pasdrongel_method(state: &[u8], method: &mut u32) -> u32
     ensures { λ r. ⌜ (r ≡ soundCode (now (state .entry)))
-        × (now (method .exit) ≡ soundOut (now (state .entry)) (methodByte (compositionOf (now (state .entry)) .method))
+        × (now (method .exit) ≡ soundOut (now (state .entry)) (methodByte (compositionOf (now (state .entry)) .settings .method))
         (now (method .entry))) ⌝ }
 {
     if !p6_bytes::bytes_ok(state) {
@@ -58,7 +58,8 @@ pub extern "C" fn pasdrongel_method(state: &[u8], method: &mut u32) -> u32
 #[no_mangle]
 pub extern "C" fn pasdrongel_mode(state: &[u8], mode: &mut u32) -> u32
     ensures { λ r. ⌜ (r ≡ soundCode (now (state .entry)))
-        × (now (mode .exit) ≡ soundOut (now (state .entry)) (modeByte (compositionOf (now (state .entry)) .mode)) (now (mode .entry))) ⌝ }
+        × (now (mode .exit) ≡ soundOut (now (state .entry)) (modeByte (compositionOf (now (state .entry)) .settings .mode))
+        (now (mode .entry))) ⌝ }
 {
     if !p6_bytes::bytes_ok(state) {
         return number(Refusal::Unsound);

@@ -36,13 +36,14 @@ unfolding press pressAll holds examples RefusalsAnswers.content RefusalsAnswers.
     LettersTones.offIn LettersTones.toneOff LettersVowels.vowels LettersVowels.isVowel LettersVowels.isSpellingVowel
     InputMethodRules.toneKeys InputMethodRules.isToneKey InputMethodRules.markRule InputMethodRules.markRules InputMethodRules.markIn
     InputMethodRules.markFor InputMethodRules.isHornKey CellsCells.isBlank CellsCells.marks CellsCells.tones CellsCells.markFits
-    CellsCells.toneFits CellsCells.isCell CellsCells.fitsAt CellsCells.isSound CellsCells.typed CellsCells.used CellsCells.holding
+    CellsCells.toneFits CellsCells.isCell CellsCells.fitsAt CellsCells.isSound CellsCells.typed CellsCells.used CellsCells.composed
     CellsText.letterOf CellsText.tonedLetter CellsText.shown CellsText.textOf PlacePlace.lowLetter PlacePlace.lowBase PlacePlace.anyVowel
     PlacePlace.separates PlacePlace.anySeparates PlacePlace.lastSyllable PlacePlace.syllableStart PlacePlace.vowelPlaces PlacePlace.pairIn
     PlacePlace.glidingPair PlacePlace.glides PlacePlace.risingPair PlacePlace.kept PlacePlace.rises PlacePlace.chosen PlacePlace.placeOf
-    PlacePlace.tonePlace MarksUo.baseAt MarksUo.uoBack MarksUo.uoPlace MarksUo.hornU MarksUo.uoMade MarksUa.afterQ MarksUa.uaPlace
-    MarksUa.marked MarksUa.uaMade MarksMark.markBack MarksMark.markPlace MarksMark.markMade KeyKey.withTone KeyKey.toneMade KeyKey.appended
-    KeyKey.markOrLater KeyKey.hornOrLater KeyKey.keyCells CallsSettings.empty CallsSettings.created UndoRaw.rawLowered UndoRaw.endsIn
+    PlacePlace.tonePlace MarksUo.baseAt MarksUo.uoBack MarksUo.uoPlace MarksUo.hornU MarksUo.hornO MarksUo.uoMade MarksUa.afterQ
+    MarksUa.uaPlace MarksUa.marked MarksUa.uaMade MarksMark.markBack MarksMark.markPlace MarksMark.markMade KeyKey.withTone
+    KeyKey.toneMade KeyKey.appended
+    KeyKey.markOrLater KeyKey.hornOrLater KeyKey.keyCells CallsSettings.created UndoRaw.rawLowered UndoRaw.endsIn
     UndoRaw.pairAt UndoRaw.lastEnd UndoRaw.anyPlain UndoRaw.active UndoUndo.lastWith UndoUndo.hasTone UndoUndo.hasMark UndoUndo.ruleAt
     UndoUndo.byRules UndoUndo.toneAt UndoUndo.toUndo UndoUndo.toneLost UndoUndo.restored UndoUndo.undone UndoCall.undoFound
     UndoCall.undoTelex RowsRows.onsetRows RowsRows.vowelRows RowsRows.codaRows RowsRows.onsetToVowels RowsRows.vowelsToCoda

@@ -129,8 +129,7 @@ all p l (b ∷ input) = go (eqb b 10) refl (λ (q : Phase). all q [] input) (all
         rw (
           lines-turn l b input,
           at-end p (take most l) b e,
-          end-out p
-              (take most l) b e,
+          end-out p (take most l) b e,
           e,
           out-bounded p l,
           phase-bounded p l,

@@ -23,6 +23,7 @@ use Rattle.p5_utf8_text.proofs.Exact.{letters-exactly}
 use Rattle.p7_line.specs.declared.Begun.{Begun}
 use Rattle.p7_line.specs.declared.Begun.the-variants.{Refused as Not}
 use Rattle.p2_input_method.specs.declared.InputMethod.{InputMethod}
+use Rattle.p3_cells.specs.Settings.{atFirst}
 use Rattle.p7_line.specs.Line.{keysMade, madeLine, refusedLine, keysLine, lineOut}
 use Rattle.p7_line.specs.Method.{methodNamed, begunBy}
 
@@ -99,13 +100,13 @@ module _ (s o : List ℕ) (g : Answer) (e : g ≡ answer (reading s) (length o))
     pub keys-letters : allLetters keys ≡ true
     keys-letters = rw k (read-small s (take n out) (read-done n out q f) .1)
 
-    keys-typed : lineOut m s ≡ madeLine (keysMade m [] keys)
+    keys-typed : lineOut m s ≡ madeLine (keysMade (atFirst m) [] keys)
     unfolding lineOut keysLine
     keys-typed = rw (read-done n out q f, k) refl
 
-    pub typed-line-end : (e at : ℕ) → e ≡ at + length (madeLine (keysMade m [] keys)) → e ≡ at + length (lineOut m s)
+    pub typed-line-end : (e at : ℕ) → e ≡ at + length (madeLine (keysMade (atFirst m) [] keys)) → e ≡ at + length (lineOut m s)
     typed-line-end e at h = rw keys-typed h
 
-    pub typed-line-out : (e at : ℕ) (o1 o2 : List ℕ) → o2 ≡ take at o1 ++ (madeLine (keysMade m [] keys) ++ drop e o1)
+    pub typed-line-out : (e at : ℕ) (o1 o2 : List ℕ) → o2 ≡ take at o1 ++ (madeLine (keysMade (atFirst m) [] keys) ++ drop e o1)
         → o2 ≡ take at o1 ++ (lineOut m s ++ drop e o1)
     typed-line-out e at o1 o2 h = rw keys-typed h

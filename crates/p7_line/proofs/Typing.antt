@@ -16,16 +16,18 @@ use Rattle.p0_refusals.specs.declared.Refusal.{Refusal}
 use Rattle.p0_refusals.specs.declared.Refusal.the-variants.{Full}
 use Rattle.p1_letters.specs.Alphabet.{inAlphabet, allLetters}
 use Rattle.p2_input_method.specs.declared.InputMethod.{InputMethod}
-use Rattle.p3_cells.specs.Cells.{limit, isSound, used, holding}
+use Rattle.p3_cells.specs.Cells.{limit, isSound, used, composed, holding}
 use Rattle.p3_cells.specs.Text.{shown, textOf}
 use Rattle.p3_cells.specs.Leaving.{leaving}
 use Rattle.p3_cells.specs.declared.Composition.{Composition}
 use Rattle.p3_cells.specs.declared.Mode.{Mode}
 use Rattle.p3_cells.specs.declared.Mode.the-variants.{Vietnamese}
+use Rattle.p3_cells.specs.declared.Settings.{Settings}
 use Rattle.p0_refusals.specs.declared.Answer.the-variants.{Done, Refused}
-use Rattle.p3_calls.specs.Settings.{empty, created}
+use Rattle.p3_cells.specs.Settings.{atFirst}
+use Rattle.p3_calls.specs.Settings.{created}
 use Rattle.p3_calls.proofs.Kept.{new-sound}
-use Rattle.p3_cells.proofs.Holding.{used-holding, method-held, mode-held, used-length, used-cells, count-fits}
+use Rattle.p3_cells.proofs.Holding.{used-held, settings-held, used-length, used-cells, count-fits}
 use Rattle.p3_step.specs.Key.{keyCells}
 use Rattle.p3_key.specs.Process.{inMode, nextCells, writtenFor, isFull, keyOutcome, keyNext, keyed}
 use Rattle.p3_cells.specs.declared.After.{After}
@@ -35,7 +37,7 @@ use Rattle.p7_line.specs.Line.{made, full, keysMade, madeLine, refusedLi
 use Rattle.p3_cells.proofs.InAlphabet.{text-letters}
 
 -- ---- one key, on a sound Vietnamese composition with a place lent for each cell
-module _ (c : Composition) (k : ℕ) (o : List ℕ) (s : isSound c ≡ true) (v : c .mode ≡ Vietnamese)
+module _ (c : Composition) (k : ℕ) (o : List ℕ) (s : isSound c ≡ true) (v : c .settings .mode ≡ Vietnamese)
     (a : inAlphabet k ≡ true) (l : length o ≡ limit) where
   text-long : length (textOf (nextCells c k)) ≡ length (nextCells c k)
   unfolding textOf
@@ -98,20 +100,20 @@ module _ (c : Composition) (k : ℕ) (o : List ℕ) (s : isSound c ≡ true) (v 
         (take-at (textOf (nextCells c k)) (drop (length (textOf (nextCells c k))) o) n key-count)
 
 -- ---- the line
-pub record Typing (m : InputMethod) (keys : List ℕ) (c : Composition) (text : List ℕ) (n i : ℕ) : Type 0 where
+pub record Typing (z : Settings) (keys : List ℕ) (c : Composition) (text : List ℕ) (n i : ℕ) : Type 0 where
   pub sound : isSound c ≡ true
-  pub method : c .method ≡ m
-  pub mode : c .mode ≡ Vietnamese
-  pub rest : keysMade m [] keys ≡ keysMade m (used c) (drop i keys)
+  pub settings : c .settings ≡ z
+  pub mode : z .mode ≡ Vietnamese
+  pub rest : keysMade z [] keys ≡ keysMade z (used c) (drop i keys)
   pub shown : take n text ≡ textOf (used c)
 
-typing-start : (m : InputMethod) (keys text : List ℕ) → Typing m keys (created m) text 0 0
-unfolding created empty used textOf
+typing-start : (m : InputMethod) (keys text : List ℕ) → Typing (atFirst m) keys (created m) text 0 0
+unfolding created composed used textOf
 typing-start m keys text =
-    record { sound = new-sound m; method = refl; mode = refl; rest = refl; shown = refl }
+    record { sound = new-sound m; settings = refl; mode = refl; rest = refl; shown = refl }
 
-module _ (m : InputMethod) (keys : List ℕ) (c : Composition) (text : List ℕ) (n i : ℕ) (t : Typing m keys c text n i) where
-  pub typing-done : length keys ≤ i → keysMade m [] keys ≡ made (used c)
+module _ (z : Settings) (keys : List ℕ) (c : Composition) (text : List ℕ) (n i : ℕ) (t : Typing z keys c text n i) where
+  pub typing-done : length keys ≤ i → keysMade z [] keys ≡ made (used c)
   unfolding keysMade
   typing-done h = t .rest ∙ rw (drop-of-length-le keys h) refl
 
@@ -119,60 +121,63 @@ module _ (m : InputMethod) (keys : List ℕ) (c : Composition) (text : List ℕ)
     letter : inAlphabet k ≡ true
     letter = rw e (all-at keys i a h)
 
-    cells-next : nextCells c k ≡ keyCells m (used c) k
+    cells-next : nextCells c k ≡ keyCells z (used c) k
     unfolding nextCells
-    cells-next = rw (t .method) refl
+    cells-next = rw (t .settings) refl
 
-    turn : keysMade m [] keys ≡ pick (ltb limit (length (nextCells c k))) full (keysMade m (nextCells c k) (drop (i + 1) keys))
+    mode : c .settings .mode ≡ Vietnamese
+    mode = rw (t .settings) (t .mode)
+
+    turn : keysMade z [] keys ≡ pick (ltb limit (length (nextCells c k))) full (keysMade z (nextCells c k) (drop (i + 1) keys))
     unfolding keysMade
     turn = t .rest ∙ rw (add-one i, drop-cons keys i 0 h, ← e, ← cells-next) refl
 
     pub typing-full : (y : After) (r : Refusal) → y ≡ keyed c k (length text) → y .answer ≡ Refused r
-        → (keysMade m [] keys ≡ full) × (r ≡ Full)
+        → (keysMade z [] keys ≡ full) × (r ≡ Full)
     unfolding keyed leaving
     typing-full y r d q =
-        let w = key-full c k text (t .sound) (t .mode) letter l r (sym (ap (λ (z : After). z .answer) d) ∙ q) in
+        let w = key-full c k text (t .sound) mode letter l r (sym (ap (λ (z : After). z .answer) d) ∙ q) in
         (turn ∙ rw (lt-ltb limit (length (nextCells c k)) (w .0)) refl, w .1)
 
     pub typing-on : (y : After) (j : ℕ) (new : List ℕ) → y ≡ keyed c k (length text) → y .answer ≡ Done j
-        → new ≡ output (keyOutcome c k) text → Typing m keys (y .comp) new j (i + 1)
+        → new ≡ output (keyOutcome c k) text → Typing z keys (y .comp) new j (i + 1)
     unfolding keyed leaving
     typing-on y j new d q f =
         let g : answer (keyOutcome c k) (length text) ≡ Done j = sym (ap (λ (z : After). z .answer) d) ∙ q in
-        let w = key-done c k text (t .sound) (t .mode) letter l j g in
-        let b : y .comp ≡ holding c (nextCells c k) = ap (λ (z : After). z .comp) d ∙ key-comp c k text (t .sound) (t .mode) letter l j g in
-        let u : used (y .comp) ≡ nextCells c k = ap used b ∙ used-holding c (nextCells c k) in
+        let w = key-done c k text (t .sound) mode letter l j g in
+        let b : y .comp ≡ holding c (nextCells c k) = ap (λ (z : After). z .comp) d ∙ key-comp c k text (t .sound) mode letter l j g in
+        let u : used (y .comp) ≡ nextCells c k = ap used b ∙ used-held (c .settings) (nextCells c k) in
         let p : y .comp ≡ keyed c k (length text) .comp = ap (λ (z : After). z .comp) d in
         record {
           sound = rw p (key-sound c k (length text) (t .sound));
-          method = ap (λ (z : Composition). z .method) b ∙ method-held c (nextCells c k) ∙ t .method;
-          mode = ap (λ (z : Composition). z .mode) b ∙ mode-held c (nextCells c k) ∙ t .mode;
+          settings = ap (λ (d : Composition). d .settings) b ∙ settings-held (c .settings) (nextCells c k) ∙ t .settings;
+          mode = t .mode;
           rest = turn ∙ rw (le-ltb limit (length (nextCells c k)) w, u) refl;
-          shown = rw (f, u) (key-text c k text (t .sound) (t .mode) letter l j g);
+          shown = rw (f, u) (key-text c k text (t .sound) mode letter l j g);
         }
 
 -- ---- what the line prints; the composition began as c₀, new with the method
 module _ (m : InputMethod) (keys : List ℕ) (c₀ : Composition) (e : c₀ ≡ created m) where
-  begun : c₀ .method ≡ m
-  unfolding created empty
-  begun = ap (λ (d : Composition). d .method) e
+  begun : c₀ .settings ≡ atFirst m
+  unfolding created composed
+  begun = ap (λ (d : Composition). d .settings) e
 
-  pub typing-first : (text : List ℕ) → Typing (c₀ .method) keys c₀ text 0 0
-  unfolding created empty
-  typing-first text = subst (λ (d : Composition). Typing (d .method) keys d text 0 0) (sym e) (typing-start m keys text)
+  pub typing-first : (text : List ℕ) → Typing (c₀ .settings) keys c₀ text 0 0
+  unfolding created composed
+  typing-first text = subst (λ (d : Composition). Typing (d .settings) keys d text 0 0) (sym e) (typing-start m keys text)
 
-  module _ (c : Composition) (text : List ℕ) (n i : ℕ) (t : Typing (c₀ .method) keys c text n i) where
+  module _ (c : Composition) (text : List ℕ) (n i : ℕ) (t : Typing (c₀ .settings) keys c text n i) where
     pub line-refused : allLetters keys ≡ true → i < length keys → length text ≡ limit → (k : ℕ) → k ≡ getD keys i 0
         → (y : After) (r : Refusal) → y ≡ keyed c k (length text)
-        → y .answer ≡ Refused r → madeLine (keysMade m [] keys) ≡ refusedLine r
+        → y .answer ≡ Refused r → madeLine (keysMade (atFirst m) [] keys) ≡ refusedLine r
     unfolding madeLine
     line-refused a h l k q y r d f =
-        let w = typing-full (c₀ .method) keys c text n i t a h l k q y r d f in
+        let w = typing-full (c₀ .settings) keys c text n i t a h l k q y r d f in
         rw (← begun, w .0, w .1) refl
 
-    pub line-typed : length keys ≤ i → madeLine (keysMade m [] keys) ≡ textLine (take n text)
+    pub line-typed : length keys ≤ i → madeLine (keysMade (atFirst m) [] keys) ≡ textLine (take n text)
     unfolding madeLine
-    line-typed h = rw (← begun, typing-done (c₀ .method) keys c text n i t h, t .shown) refl
+    line-typed h = rw (← begun, typing-done (c₀ .settings) keys c text n i t h, t .shown) refl
 
     pub text-fits : (length (take n text) ≤ limit) × (allLetters (take n text) ≡ true)
     unfolding textOf

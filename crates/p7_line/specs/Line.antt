@@ -13,6 +13,8 @@ use Rattle.p2_input_method.specs.declared.InputMethod.{InputMethod}
 use Rattle.p3_cells.specs.Cells.{limit}
 use Rattle.p3_cells.specs.Text.{textOf}
 use Rattle.p3_cells.specs.declared.Cell.{Cell}
+use Rattle.p3_cells.specs.declared.Settings.{Settings}
+use Rattle.p3_cells.specs.Settings.{atFirst}
 use Rattle.p3_step.specs.Key.{keyCells}
 use Rattle.p4_spelling.specs.Verdict.{verdict}
 use Rattle.p0_refusals.specs.Answers.{Outcome, writes, refuses}
@@ -46,9 +48,9 @@ pub data KeysMade : Type 0 where
   made : List Cell → KeysMade
   full : KeysMade
 
-unfoldable pub keysMade : InputMethod → List Cell → List ℕ → KeysMade
-keysMade m cs [] = made cs
-keysMade m cs (k ∷ ks) = pick (ltb limit (length (keyCells m cs k))) full (keysMade m (keyCells m cs k) ks)
+unfoldable pub keysMade : Settings → List Cell → List ℕ → KeysMade
+keysMade z cs [] = made cs
+keysMade z cs (k ∷ ks) = pick (ltb limit (length (keyCells z cs k))) full (keysMade z (keyCells z cs k) ks)
 
 unfoldable pub madeLine : KeysMade → List ℕ
 madeLine (made cs) = textLine (textOf cs)
@@ -56,7 +58,7 @@ madeLine full = refusedLine Full
 
 -- the bytes of a line are keys; the refusals of reading them go before 2
 unfoldable pub keysLine : InputMethod → Outcome → List ℕ
-keysLine m (writes ks) = madeLine (keysMade m [] ks)
+keysLine m (writes ks) = madeLine (keysMade (atFirst m) [] ks)
 keysLine m (refuses r) = refusedLine r
 
 unfoldable pub lineOut : InputMethod → List ℕ → List ℕ

@@ -10,6 +10,7 @@ ghost use Rattle.p5_utf8.specs.Rfc3629.{encodeAll};
 ghost use Rattle.p4_rows.specs.Lookup.{sameWord};
 ghost use Rattle.p0_refusals.specs.Answers.{writes};
 ghost use mathlib.Core.List.{[]};
+ghost use Rattle.p3_cells.specs.Settings.{atFirst};
 ghost use Rattle.p7_line.specs.Line.{refusedLine, textLine, keysMade, madeLine, lineOut};
 ghost use Rattle.p7_line.specs.Mirror.{lineRoom};
 ghost use Rattle.p7_line.specs.Mirror.{textBytes};
@@ -127,8 +128,9 @@ fn text_line(text: &[u32], out: &mut [u8], at: usize) -> usize
 // Keys on a fresh composition: its text with the verdict, or the refusal of the first append that finds all cells used.
 fn keys_line(m: InputMethod, keys: &[u32], out: &mut [u8], at: usize) -> usize
     requires { ⌜ (allLetters (now keys) ≡ true) × (at + lineRoom ≤ length (now out)) ⌝ }
-    ensures { λ r. ⌜ (r ≡ at + length (madeLine (keysMade m [] (now (keys .entry))))) × (r ≤ at + lineRoom)
-        × (now (out .exit) ≡ take at (now (out .entry)) ++ (madeLine (keysMade m [] (now (keys .entry))) ++ drop r (now (out .entry)))) ⌝ }
+    ensures { λ r. ⌜ (r ≡ at + length (madeLine (keysMade (atFirst m) [] (now (keys .entry))))) × (r ≤ at + lineRoom)
+        × (now (out .exit) ≡ take at (now (out .entry))
+        ++ (madeLine (keysMade (atFirst m) [] (now (keys .entry))) ++ drop r (now (out .entry)))) ⌝ }
 {
     let mut c = p3_calls::new(m);
     let mut text = [0u32; LIMIT];

@@ -4,6 +4,7 @@ use lib.ListN.{length, length-set}
 use native.Mathlib.Omega.{arith}
 use borrow.Author.Needs.{needs}
 use Rattle.p3_cells.specs.Cells.{limit}
+use Rattle.p3_cells.specs.Mirror.{places}
 use Rattle.p3_cells.proofs.SoundTest.{fitsFrom}
 use Rattle.p3_cells.proofs.Text.{length-under}
 use Rattle.p3_cells.proofs.Fill.{Filled, fill-none, fill-more}
@@ -15,7 +16,7 @@ use Rattle.p3_key.proofs.compose.Tie as tie
 
 abbrev Inv-loop : tie.InvT-loop
 Inv-loop key out trusted c n used bases₀ faults₀ i₀ bases faults i =
-    (i ≤ used) × (length bases ≡ limit) × (faults ≤ i) × Filled (c .cells) bases i × (fitsFrom c 0 ≡ faultsBy c faults i)
+    (i ≤ used) × (length bases ≡ limit) × (faults ≤ i) × Filled c bases i × (fitsFrom c 0 ≡ faultsBy c faults i)
 
 abbrev μ-loop : tie.MeasureT-loop
 μ-loop key out trusted c n used bases₀ faults₀ i₀ bases faults i = used - i
@@ -29,12 +30,12 @@ abbrev μ-loop2 : tie.MeasureT-loop2
 
 abbrev Inv-loop3 : tie.InvT-loop3
 Inv-loop3 key out₀ trusted c n used faults i sound o e at also count j₀ out j =
-    (j ≤ count) × (length out ≡ length out₀) × (out ≡ lettersTo o key (c .cells) j out₀)
+    (j ≤ count) × (length out ≡ length out₀) × (out ≡ lettersTo o key c j out₀)
 
 abbrev μ-loop3 : tie.MeasureT-loop3
 μ-loop3 key out₀ trusted c n used faults i sound o e at also count j₀ out j = count - j
 
-long : (c : tie.Start Inv-loop μ-loop Inv-loop2 μ-loop2 Inv-loop3 μ-loop3) → length (c .args .t1 .cells) ≡ limit
+long : (c : tie.Start Inv-loop μ-loop Inv-loop2 μ-loop2 Inv-loop3 μ-loop3) → places (c .args .t1) ≡ limit
 long c = search length-under
 
 pub compose-spec : {M : Type 1} → statement M
@@ -62,8 +63,8 @@ compose-spec =
     (λ c. (search needs, search needs, search needs, search faults-past))
     -- the stroke, and its stores
     (λ c κs. search needs) (λ c. search needs) (λ c. search needs) (λ c. search needs) (λ c κs. search needs) (λ c. search needs)
-    (λ c. search needs) (λ c. search needs) (λ c. search needs) (λ c κs. search needs) (λ c κs. search needs) (λ c. search needs)
-    (λ c. search needs) (λ c κs. search needs) (λ c. search needs) (λ c. search needs)
+    (λ c. search needs) (λ c. search needs) (λ c. search needs) (λ c κs. search needs) (λ c κs. search needs) (λ c κs. search needs)
+    (λ c. search needs) (λ c. search needs) (λ c. search needs) (λ c. search needs)
     -- the letters
     (λ c. (search needs, search needs, search no-letters-yet))
     (λ c. search needs) (λ c. search needs) (λ c κs. search needs) (λ c. search needs) (λ c. search needs) (λ c. search needs)
@@ -72,13 +73,13 @@ compose-spec =
     let loop = c .before .before .before in
     let also = loop .before in
     let put = also .before in
-    let stroke = put .before .before .before .before in
-    let start = stroke .before .before .before .before .before .before .before .before .before .before in (
+    let stroke = put .before .before .before .before .before in
+    let start = stroke .before .before .before .before .before .before .before .before .before .before .before in (
       search needs,
       simp length-set (search needs),
-      letters-stored _ _ (start .args .t1 .cells) (stroke .stroke-of .result .at) (stroke .stroke-of .result .also) (put .put-cell .result)
-          (also .also-cell .result) (start .args .out .now) _ _ _ _ (long start) (loop .loop3 .inv .2)
-          (c .letter-for .ensures) (c .before .before .loop3-test .taken) (stroke .stroke-of .ensures .3) (stroke .stroke-of .ensures .4),
+      letters-stored _ _ (start .args .t1) _ (stroke .stroke-of .result) (also .also-cell .result) (put .put-cell .result)
+          (start .args .out .now) _ _ _ (long start) refl (loop .loop3 .inv .2) (c .letter-for .ensures)
+          (c .before .before .loop3-test .taken) (stroke .stroke-of .ensures .3) (stroke .stroke-of .ensures .4),
     ))
     (λ c. search needs)
     -- the return
@@ -86,15 +87,15 @@ compose-spec =
     let also = c .before .before in
     let put = also .before in
     let lower = put .before in
-    let stroke = lower .before .before .before in
-    let sound = stroke .before .before .before in
+    let stroke = lower .before .before .before .before in
+    let sound = stroke .before .before .before .before in
     let past-left = sound .before in
     let past = past-left .before in
     let row-left = past .before in
     let row = row-left .before in
     let most = row .before in
     let start = most .before .before in
-    owner-right _ _ _ _ _ _ _ _ _ _ _ _ _ _ _ _ _ (long start) (past .loop2 .inv .3) (past-left .loop2-test .left) (start .pre)
+    owner-right _ _ _ _ _ _ _ _ _ _ _ _ _ _ _ _ _ _ (long start) (past .loop2 .inv .3) (past-left .loop2-test .left) (start .pre)
     (sound .is-sound .ensures) (most .at-most .ensures) (row .loop .inv .3) (row .loop .inv .0)
     (row-left .loop-test .left) (search needs) (stroke .stroke-of .ensures .0) (lower .ascii-lower .ensures) (put .put-cell .ensures)
-    (also .also-cell .ensures) (c .before .loop3 .inv .2) (c .before .loop3 .inv .0) (c .loop3-test .left)))
+    (also .also-cell .ensures) refl (c .before .loop3 .inv .2) (c .before .loop3 .inv .0) (c .loop3-test .left)))

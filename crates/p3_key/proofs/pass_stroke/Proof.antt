@@ -11,4 +11,4 @@ unfolding passStroke
 pass-stroke-spec =
     tie.close
     (tie.spec
-    (λ c κs. search answers) (λ c. search answers) (λ c. search answers))
+    (λ c κs. search answers) (λ c. search answers) (λ c κs. search answers) (λ c. search answers))

@@ -7,7 +7,7 @@ pub stroke-of-spec : {M : Type 1} → statement M
 stroke-of-spec =
     tie.close
     (tie.spec
-    (λ c κs. search needs) (λ c. bounded _ _ _ _ _ _ _ _ (search stroke-unsound)) (λ c κs. search needs) (λ c κs. search needs)
-    (λ c. bounded _ _ _ _ _ _ _ _ (search stroke-foreign))
+    (λ c κs. search needs) (λ c. bounded _ _ _ _ _ _ _ (search stroke-unsound)) (λ c κs. search needs) (λ c κs. search needs)
+    (λ c. bounded _ _ _ _ _ _ _ (search stroke-foreign))
     (λ c. search needs) (λ c κs. search needs) (λ c κs. search needs) (λ c κs. search needs) (λ c. search needs) (λ c κs. search needs)
-    (λ c. bounded _ _ _ _ _ _ _ _ (search stroke-step)) (λ c. bounded _ _ _ _ _ _ _ _ (search stroke-pass)))
+    (λ c. bounded _ _ _ _ _ _ _ (search stroke-step)) (λ c. bounded _ _ _ _ _ _ _ (search stroke-pass)))

@@ -4,19 +4,19 @@ use mathlib.Core.Path.{_≡_, refl}
 use lib.ListN.{drop}
 use Rattle.p2_input_method.specs.Rules.{markRules}
 use Rattle.p2_input_method.specs.declared.InputMethod.the-variants.{Telex}
-use Rattle.p3_cells.specs.Cells.{used}
 use Rattle.p3_undo.specs.Raw.{rawLowered}
 use Rattle.p3_undo.specs.Undo.{byRules}
+use Rattle.p3_undo.specs.Mirror.{signCells}
 use Rattle.p3_undo.proofs.Undo.{rules-none, rules-found, rules-on}
 use Rattle.p3_undo.proofs.by_rules.Statement.{statement}
 use Rattle.p3_undo.proofs.by_rules.Tie as tie
 
 abbrev Inv-loop : tie.InvT-loop
-Inv-loop c raw t i₀ i = (i ≤ 7)
-    × (byRules (used c) (rawLowered raw) t (markRules Telex) ≡ byRules (used c) (rawLowered raw) t (drop i (markRules Telex)))
+Inv-loop row raw t i₀ i = (i ≤ 7)
+    × (byRules (signCells row) (rawLowered raw) t (markRules Telex) ≡ byRules (signCells row) (rawLowered raw) t (drop i (markRules Telex)))
 
 abbrev μ-loop : tie.MeasureT-loop
-μ-loop c raw t i₀ i = 7 - i
+μ-loop row raw t i₀ i = 7 - i
 
 ruleset answers = (needs, rules-none, rules-found, rules-on, refl)
 

@@ -11,4 +11,4 @@ unfolding hasTone
 has-tone-spec =
     tie.close
     (tie.spec
-    (λ c. search answers) (λ c. search answers) (λ c. search answers))
+    (λ c. search answers) (λ c. search answers))

@@ -1,17 +1,18 @@
 use borrow.Author.Needs.{needs}
 use Prim.Native.Nat.{_≤_}
 use mathlib.Core.Path.{_≡_, refl}
-use Rattle.p3_cells.specs.Cells.{used}
+use lib.ListN.{length}
+use Rattle.p3_undo.specs.Mirror.{signCells}
 use Rattle.p3_undo.specs.Undo.{lastWith, hasMark}
 use Rattle.p3_undo.proofs.Undo.{with-none, with-found, with-on}
 use Rattle.p3_undo.proofs.last_marked.Statement.{statement}
 use Rattle.p3_undo.proofs.last_marked.Tie as tie
 
 abbrev Inv-loop : tie.InvT-loop
-Inv-loop m c i₀ i = (i ≤ c .count) × (lastWith (hasMark m) (used c) (c .count) ≡ lastWith (hasMark m) (used c) i)
+Inv-loop row m i₀ i = (i ≤ length row) × (lastWith (hasMark m) (signCells row) (length row) ≡ lastWith (hasMark m) (signCells row) i)
 
 abbrev μ-loop : tie.MeasureT-loop
-μ-loop m c i₀ i = i
+μ-loop row m i₀ i = i
 
 ruleset answers = (needs, with-none, with-found, with-on, refl)
 

@@ -1,17 +1,18 @@
 use borrow.Author.Needs.{needs}
 use Prim.Native.Nat.{_≤_}
 use mathlib.Core.Path.{_≡_, refl}
-use Rattle.p3_cells.specs.Cells.{used}
+use lib.ListN.{length}
+use Rattle.p3_undo.specs.Mirror.{signCells}
 use Rattle.p3_undo.specs.Undo.{lastWith, hasTone}
 use Rattle.p3_undo.proofs.Undo.{with-none, with-found, with-on}
 use Rattle.p3_undo.proofs.last_toned.Statement.{statement}
 use Rattle.p3_undo.proofs.last_toned.Tie as tie
 
 abbrev Inv-loop : tie.InvT-loop
-Inv-loop t c i₀ i = (i ≤ c .count) × (lastWith (hasTone t) (used c) (c .count) ≡ lastWith (hasTone t) (used c) i)
+Inv-loop row t i₀ i = (i ≤ length row) × (lastWith (hasTone t) (signCells row) (length row) ≡ lastWith (hasTone t) (signCells row) i)
 
 abbrev μ-loop : tie.MeasureT-loop
-μ-loop t c i₀ i = i
+μ-loop row t i₀ i = i
 
 ruleset answers = (needs, with-none, with-found, with-on, refl)
 

@@ -2,7 +2,6 @@ use Prim.Native.Nat.{_<_}
 use native.Mathlib.Omega.{arith}
 use borrow.Author.Needs.{needs}
 use Rattle.p3_cells.specs.Cells.{limit}
-use Rattle.p3_cells.proofs.Holding.{count-fits}
 use Rattle.p3_undo.proofs.Found.{tone-place, mark-place}
 use Rattle.p3_undo.proofs.Call.{undo-nothing, undo-toneless, undo-restored}
 use Rattle.p3_undo.proofs.undo_found.Statement.{statement}
@@ -18,7 +17,7 @@ pub undo-found-spec : {M : Type 1} → statement M
 undo-found-spec =
     tie.close
     (tie.spec
-    (λ c κs. search count-fits)
+    (λ c κs. search needs)
     (λ c. search needs) (λ c. search needs)
     (λ c. omega (arith, toned c)) (λ c. toned c)
     (λ c κs. search needs)

@@ -1,5 +1,5 @@
 use mathlib.Core.Path.{refl}
-use Rattle.p5_lister.proofs.Answers.{listed-many}
+use Rattle.p5_listing.proofs.Numbering.{listed-many}
 use Rattle.p5_lister.proofs.total.Statement.{statement}
 use Rattle.p5_lister.proofs.total.Tie as tie
 

@@ -1,12 +1,10 @@
-use mathlib.Core.Path.{refl, ap, _∙_}
+use mathlib.Core.Path.{refl}
 use native.Mathlib.Omega.{arith}
 use borrow.Author.Needs.{needs}
 use lib.ListN.{take}
-use Rattle.p5_trie.specs.Mirror.{Trie, nth}
 use Rattle.p5_listing.proofs.Computed.{size-listing}
-use Rattle.p5_listing.proofs.Nodes.{root}
 use Rattle.p5_listing.proofs.Numbering.{lists}
-use Rattle.p5_lister.proofs.Reading.{root-size, root-depth}
+use Rattle.p5_lister.proofs.Reading.{root-size, root-depth, root-word}
 use Rattle.p5_lister.proofs.Answers.{beyond, numbered}
 use Rattle.p5_lister.proofs.word_number.Statement.{statement}
 use Rattle.p5_lister.proofs.word_number.Tie as tie
@@ -25,7 +23,7 @@ returns-2 c =
     let w : tie.After-spell = c .before .before .before .before in
     let n = w .before .before .before .args .n in
     numbered lists _ _ _ n (omega (arith, w .before .if1 .left, size-listing)) (take (w .spell .result .len) (w .spell .result .letters))
-    (w .spell .ensures .1 ∙ ap (λ (t : Trie). nth t n) root) (search answers) (search answers)
+    (root-word _ n _ (w .spell .ensures .1) (search answers)) (search answers) (search answers)
 
 pub word-number-spec : {M : Type 1} → statement M
 word-number-spec = tie.close (tie.spec returns spell-requires (λ c κs. search needs) (λ c. search needs) returns-2)

@@ -11,4 +11,5 @@ bytes-ok-spec =
     (tie.spec
     (λ c. search answers) (λ c κs. search answers) (λ c. search answers) (λ c. search answers) (λ c. search answers) (λ c. search answers)
     (λ c. search answers) (λ c. search answers) (λ c κs. search answers) (λ c. search answers) (λ c κs. search answers)
-    (λ c. search answers) (λ c. search answers) (λ c. search answers) (λ c κs. search answers) (λ c. search answers))
+    (λ c. search answers) (λ c. search answers) (λ c. search answers) (λ c. search answers) (λ c. search answers) (λ c. search answers)
+    (λ c κs. search answers) (λ c. search answers))

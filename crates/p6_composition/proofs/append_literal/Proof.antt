@@ -1,6 +1,7 @@
 use borrow.Author.Needs.{needs}
 use Rattle.p6_composition.proofs.Calls.{ok-sound, ok-size, unsound-answer, unsound-bytes}
-use Rattle.p6_composition.proofs.InPlace.{few, set-length, literals}
+use Rattle.p6_bytes.proofs.Stored.{set-length}
+use Rattle.p6_composition.proofs.InPlace.{few, literals}
 use Rattle.p6_composition.proofs.append_literal.Statement.{statement}
 use Rattle.p6_composition.proofs.append_literal.Tie as tie
 

@@ -31,46 +31,43 @@ process-key-spec =
     pass-short _ _ (test .bytes-ok .ensures) (passed .if1 .left) _ _ _ (alphabet .in-alphabet .ensures) (letter .if2 .left) _
     (mode .mode-number .ensures) (c .before .if3 .taken) (c .if4 .taken))
     (λ c. search answers) (λ c. search answers) (λ c. search answers) (λ c. (search pass-told, search pass-stays, search pass-out))
-    (λ c κs. search answers) (λ c κs. search answers) (λ c κs. search answers) (λ c κs. search answers) (λ c κs. search answers)
+    (λ c κs. search answers) (λ c κs. search answers) (λ c κs. search answers) (λ c κs. search answers)
     (λ c. search answers)
     -- all cells are used
     (λ c.
     let step = c .before in
     let lower = step .before .before .before in
-    let method = lower .before in
-    let number = method .before in
-    let other = number .before .before in
+    let settings = lower .before in
+    let other = settings .before .before in
     let mode = other .before in
     let letter = mode .before .before in
     let alphabet = letter .before in
     let passed = alphabet .before in
     let test = passed .before in
     full-key _ _ (test .bytes-ok .ensures) (passed .if1 .left) _ _ _ (alphabet .in-alphabet .ensures) (letter .if2 .left) _
-    (mode .mode-number .ensures) (other .if3 .left) _ _ _ _ (number .method-number .ensures) (method .method-of .ensures)
+    (mode .mode-number .ensures) (other .if3 .left) _ _ _ (settings .settings .ensures)
     (lower .ascii-lower .ensures) (step .step-on .ensures) (c .if5 .taken))
     (λ c. search answers)
     -- no room for the letters
     (λ c.
     let step = c .before .before in
     let lower = step .before .before .before in
-    let method = lower .before in
-    let number = method .before in
-    let other = number .before .before in
+    let settings = lower .before in
+    let other = settings .before .before in
     let mode = other .before in
     let letter = mode .before .before in
     let alphabet = letter .before in
     let passed = alphabet .before in
     let test = passed .before in
     short-key _ _ (test .bytes-ok .ensures) (passed .if1 .left) _ _ _ (alphabet .in-alphabet .ensures) (letter .if2 .left) _
-    (mode .mode-number .ensures) (other .if3 .left) _ _ _ _ (number .method-number .ensures) (method .method-of .ensures)
+    (mode .mode-number .ensures) (other .if3 .left) _ _ _ (settings .settings .ensures)
     (lower .ascii-lower .ensures) (step .step-on .ensures) (c .before .if5 .left) (c .if6 .taken))
     -- the places of the step
     (λ c κs.
     let step = c .before .before .before in
     let lower = step .before .before .before in
-    let method = lower .before in
-    let number = method .before in
-    let other = number .before .before in
+    let settings = lower .before in
+    let other = settings .before .before in
     let mode = other .before in
     let letter = mode .before .before in
     let alphabet = letter .before in
@@ -79,7 +76,7 @@ process-key-spec =
     let size = ok-size _ _ (test .bytes-ok .ensures) (passed .if1 .left) in
     let at = places _ _ (test .bytes-ok .ensures) (passed .if1 .left) _ (test .before .before .before .before .args .out .now) _
     (alphabet .in-alphabet .ensures) (letter .if2 .left) _
-    (mode .mode-number .ensures) (other .if3 .left) _ _ _ _ (number .method-number .ensures) (method .method-of .ensures)
+    (mode .mode-number .ensures) (other .if3 .left) _ _ _ (settings .settings .ensures)
     (lower .ascii-lower .ensures) (step .step-on .ensures) (c .before .before .if5 .left) in
     (size, at .0, at .1, c .before .before .if5 .left))
     (λ c κs. search answers) (λ c. search answers) (λ c. search answers)
@@ -88,16 +85,15 @@ process-key-spec =
     let apply = c .before .before .before .before .before .before .before in
     let step = apply .before .before .before .before in
     let lower = step .before .before .before in
-    let method = lower .before in
-    let number = method .before in
-    let other = number .before .before in
+    let settings = lower .before in
+    let other = settings .before .before in
     let mode = other .before in
     let letter = mode .before .before in
     let alphabet = letter .before in
     let passed = alphabet .before in
     let test = passed .before in
     done-key _ _ (test .bytes-ok .ensures) (passed .if1 .left) _ _ _ (alphabet .in-alphabet .ensures) (letter .if2 .left) _
-    (mode .mode-number .ensures) (other .if3 .left) _ _ _ _ (number .method-number .ensures) (method .method-of .ensures)
+    (mode .mode-number .ensures) (other .if3 .left) _ _ _ (settings .settings .ensures)
     (lower .ascii-lower .ensures) (step .step-on .ensures) (apply .before .before .before .if5 .left)
     (apply .before .before .if6 .left) _ (test .before .before .before .slice-known .given) (apply .apply .ensures .1) _
     (c .before .before .text .ensures)))

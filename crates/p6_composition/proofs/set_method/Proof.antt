@@ -1,7 +1,8 @@
 use borrow.Author.Needs.{needs}
 use Rattle.p6_bytes.proofs.Sound.{byte-there}
 use Rattle.p6_composition.proofs.Calls.{ok-sound, ok-size, unsound-answer, unsound-bytes, no-method, no-method-bytes}
-use Rattle.p6_composition.proofs.InPlace.{set-room, set-length, method-told, method-cleared}
+use Rattle.p6_bytes.proofs.Stored.{set-length}
+use Rattle.p6_composition.proofs.InPlace.{set-ok, method-told, method-cleared}
 use Rattle.p6_composition.proofs.set_method.Statement.{statement}
 use Rattle.p6_composition.proofs.set_method.Tie as tie
 
@@ -14,7 +15,7 @@ ruleset answers = (
   unsound-bytes,
   no-method,
   no-method-bytes,
-  set-room,
+  set-ok,
   set-length,
   method-told,
   method-cleared,

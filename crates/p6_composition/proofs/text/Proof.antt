@@ -20,5 +20,5 @@ pub text-spec : {M : Type 1} → statement M
 text-spec =
     tie.close
     (tie.spec
-    Inv-loop μ-loop (λ c. search answers) (λ c κs. search answers) (λ c κs. search answers) (λ c. search answers) (λ c. search answers)
+    Inv-loop μ-loop (λ c. search answers) (λ c κs. search answers) (λ c. search answers) (λ c. search answers)
     (λ c. search answers) (λ c. search answers) (λ c. search answers) (λ c. search answers) (λ c. search answers))

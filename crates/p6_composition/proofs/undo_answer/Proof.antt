@@ -1,5 +1,5 @@
 use borrow.Author.Needs.{needs}
-use Rattle.p6_composition.proofs.UndoAnswer.{appends, consumes, no-undo}
+use Rattle.p6_composition.proofs.OneUndo.{appends, consumes, no-undo}
 use Rattle.p6_composition.proofs.undo_answer.Statement.{statement}
 use Rattle.p6_composition.proofs.undo_answer.Tie as tie
 

@@ -192,8 +192,7 @@ process-key-spec 𝓤 H 𝓜 𝓖 𝓡 =
     (Callee 𝓤 H (𝓖 .A) (𝓜 .mem) (𝓡 .run)) code.env #p3_key·process-key #p6_lent·process-key code.function (
       goes-ref 𝓤 H (𝓖 .A) (givenOf 𝓤 H 𝓜 𝓖) 2 0 tt (plain (λ _. T.the-row)),
       (
-        goes-none 𝓤 H (𝓖 .A) (givenOf 𝓤 H 𝓜 𝓖) 2 (λ _. u32) yes
-            (λ κs x f. refl),
+        goes-none 𝓤 H (𝓖 .A) (givenOf 𝓤 H 𝓜 𝓖) 2 (λ _. u32) yes (λ κs x f. refl),
         (goes-gave-slice 𝓤 H (𝓖 .A) (givenOf 𝓤 H 𝓜 𝓖) 2 1 tt (plain (λ _. u32)), tt),
       ),
     )

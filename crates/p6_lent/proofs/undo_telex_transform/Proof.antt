@@ -202,8 +202,7 @@ undo-telex-transform-spec 𝓤 H 𝓜 𝓖 𝓡 =
     (Callee 𝓤 H (𝓖 .A) (𝓜 .mem) (𝓡 .run)) code.env #p3_undo·undo-telex-transform #p6_lent·undo-telex-transform code.function (
       goes-ref 𝓤 H (𝓖 .A) (givenOf 𝓤 H 𝓜 𝓖) 2 0 tt (plain (λ _. T.the-row)),
       (
-        goes-none 𝓤 H (𝓖 .A) (givenOf 𝓤 H 𝓜 𝓖) 2 (λ _. u32) yes
-            (λ κs x f. refl),
+        goes-none 𝓤 H (𝓖 .A) (givenOf 𝓤 H 𝓜 𝓖) 2 (λ _. u32) yes (λ κs x f. refl),
         (goes-none-slice 𝓤 H (𝓖 .A) (givenOf 𝓤 H 𝓜 𝓖) 2 (1 ∷ []) tt (plain (λ _. u32)) yes, tt),
       ),
     )

@@ -10,7 +10,7 @@ use Rattle.p7_line.proofs.keys_line.Tie as tie
 
 abbrev Inv-loop : tie.InvT-loop
 Inv-loop keys out₀ at c₀ text₀ count₀ i₀ out c text count i =
-    (i ≤ length keys) × (length text ≡ limit) × (length out ≡ length out₀) × (out ≡ out₀) × Typing (c₀ .method) keys c text count i
+    (i ≤ length keys) × (length text ≡ limit) × (length out ≡ length out₀) × (out ≡ out₀) × Typing (c₀ .settings) keys c text count i
 
 abbrev μ-loop : tie.MeasureT-loop
 μ-loop keys out₀ at c₀ text₀ count₀ i₀ out c text count i = length keys - i
@@ -53,7 +53,7 @@ loop-again c =
       search needs,
       l .inv .2,
       l .inv .3,
-      typing-on (new .new .result .method) (start .args .keys .now) (l .c) (l .text) (l .count) (l .i) (l .inv .4) (start .pre .0)
+      typing-on (new .new .result .settings) (start .args .keys .now) (l .c) (l .text) (l .count) (l .i) (l .inv .4) (start .pre .0)
           (turn .loop-test .taken) (l .inv .1)
           _ refl (k .result) _ _ (k .ensures .0) (told .given2 .given .1) (k .ensures .1),
     )

@@ -24,10 +24,8 @@ put-spec =
     (λ c. let l = c .before .before .loop in let z = c .before .before .before in (
       search needs,
       search needs,
-      put-on (z .args .out .now) (l .out) (z .args .bytes .now) (z .args .at) (l .i) (l .inv .2) (omega arith)
-          (omega arith),
+      put-on (z .args .out .now) (l .out) (z .args .bytes .now) (z .args .at) (l .i) (l .inv .2) (omega arith) (omega arith),
     )) (λ c. search answers) (λ c. search answers) (λ c. let l = c .before .loop in let z = c .before .before in (
       search needs,
-      put-done (z .args .out .now) (l .out) (z .args .bytes .now) (z .args .at) (l .i) (l .inv .2) (omega arith)
-          (omega arith),
+      put-done (z .args .out .now) (l .out) (z .args .bytes .now) (z .args .at) (l .i) (l .inv .2) (omega arith) (omega arith),
     )))
