@@ -7,6 +7,7 @@ mod host {
     #[rustfmt::skip]
     extern "C" {
         pub fn pasdrongel_new(state: *mut u8, size: usize, method: u32) -> u32;
+        pub fn pasdrongel_set_capitals(state: *mut u8, size: usize, on: u32) -> u32;
         pub fn pasdrongel_reset(state: *mut u8, size: usize) -> u32;
         pub fn pasdrongel_key(
             state: *mut u8, size: usize, key: u32, text: *mut u32, room: usize, count: *mut usize) -> u32;
@@ -26,9 +27,10 @@ mod host {
     }
 }
 
-/// The bytes of a composition, and the number of Telex.
+/// The bytes of a composition, the number of Telex, and that of capitals on.
 const STATE: usize = 264;
 const TELEX: u32 = 0;
+const CAPITALS_ON: u32 = 1;
 
 /// A composition as bytes.
 pub type State = [u8; STATE];
@@ -59,9 +61,21 @@ pub fn host_keys(keys: &[u32], text: &mut [u32]) -> usize {
 
 /// The same, on bytes that are lent: they hold the composition after the last key.
 pub fn host_typed(state: &mut State, keys: &[u32], text: &mut [u32]) -> usize {
+    let refused = unsafe { host::pasdrongel_new(state.as_mut_ptr(), STATE, TELEX) };
+    refused as usize + typed_on(state, keys, text)
+}
+
+/// The same as `host_keys`, with capitals on.
+pub fn host_capital_keys(keys: &[u32], text: &mut [u32]) -> usize {
+    let mut state = [0; STATE];
+    let mut refused = unsafe { host::pasdrongel_new(state.as_mut_ptr(), STATE, TELEX) };
+    refused += unsafe { host::pasdrongel_set_capitals(state.as_mut_ptr(), STATE, CAPITALS_ON) };
+    refused as usize + typed_on(&mut state, keys, text)
+}
+
+fn typed_on(state: &mut State, keys: &[u32], text: &mut [u32]) -> usize {
     let (mut count, mut refused) = (0, 0);
     let (out, room) = (text.as_mut_ptr(), text.len());
-    refused += unsafe { host::pasdrongel_new(state.as_mut_ptr(), STATE, TELEX) };
     for &key in keys {
         refused += match key {
             RESET => unsafe { host::pasdrongel_reset(state.as_mut_ptr(), STATE) },

@@ -47,6 +47,10 @@ pub fn key_one(note: &mut Note) -> usize {
     typed(&mut note.engine, &note.one)
 }
 
+pub fn key_capitals(note: &mut Note) -> usize {
+    typed(&mut note.engine, &note.capitals)
+}
+
 pub fn verdict(note: &mut Note) -> usize {
     for word in &note.words {
         black_box(spelling::is_valid_vietnamese_syllable(&word.text));

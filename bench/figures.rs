@@ -52,6 +52,10 @@ pub const FIGURES: &[Figure] = &[
         ours: call_space, rust: engine!(key_space), floor: Some(floor_space) },
     Figure { name: "call-line", what: "C call on bytes, reset at each line's end", unit: "key",
         ours: call_line, rust: engine!(key_line), floor: Some(floor_line) },
+    Figure { name: "call-capitals", what: "C call, capitals on, reset at each space", unit: "key",
+        ours: call_capitals, rust: engine!(key_space), floor: Some(floor_space) },
+    Figure { name: "key-capitals", what: "C call, capitals on, keys in capitals", unit: "key",
+        ours: key_capitals, rust: engine!(key_capitals), floor: Some(floor_capitals) },
     Figure { name: "reset", what: "C call reset, after a copy of the bytes", unit: "word",
         ours: reset, rust: None, floor: Some(copy) },
     Figure { name: "verdict", what: "verdict", unit: "word",
@@ -101,6 +105,14 @@ fn call_line(note: &mut Note) -> usize {
     typed(&note.line, calls::host_keys)
 }
 
+fn call_capitals(note: &mut Note) -> usize {
+    typed(&note.space, calls::host_capital_keys)
+}
+
+fn key_capitals(note: &mut Note) -> usize {
+    typed(&note.capitals, calls::host_capital_keys)
+}
+
 fn floor_space(note: &mut Note) -> usize {
     typed(&note.space, calls::floor)
 }
@@ -111,6 +123,10 @@ fn floor_line(note: &mut Note) -> usize {
 
 fn floor_one(note: &mut Note) -> usize {
     typed(&note.one, calls::floor)
+}
+
+fn floor_capitals(note: &mut Note) -> usize {
+    typed(&note.capitals, calls::floor)
 }
 
 /// A copy of each word's composition is reset; the floor is the copy.

@@ -45,6 +45,8 @@ pub struct Note {
     pub line: Habit,
     /// One line of all; a fresh composition where a key would need a 33rd cell, and that key opens it.
     pub one: Habit,
+    /// As `space`, with Caps Lock: every ASCII letter among the keys is a capital.
+    pub capitals: Habit,
     /// The composition after each word, as bytes.
     pub states: Vec<State>,
     /// The words that the keys make, without digits and points.
@@ -62,11 +64,13 @@ impl Note {
     pub fn new(text: &str) -> Note {
         let keys: Vec<u32> = text.chars().map(u32::from).collect();
         let spaces_reset = |&key: &u32| if key == u32::from(' ') { RESET } else { key };
+        let caps_lock = |key: u32| u32::from(letter(key).to_ascii_uppercase());
         let lines: Vec<Text> = text.lines().map(|line| Text::new(&composed(line))).collect();
         let words = lines.iter().flat_map(|line| line.text.split(|letter: char| !letter.is_alphabetic()));
         let words = words.filter(|word| !word.is_empty()).map(Text::new).collect();
         Note {
             space: Habit::new(keys.iter().map(spaces_reset).collect()),
+            capitals: Habit::new(keys.iter().map(spaces_reset).map(caps_lock).collect()),
             line: Habit::new(keys),
             one: Habit::new(reset_when_full(text)),
             states: text.split_whitespace().map(state_of).collect(),
@@ -81,9 +85,10 @@ impl Note {
     }
 
     /// The sides do the same: after every key of every habit they have the same text, and no key is refused; and they
-    /// judge and cut every word alike.
+    /// judge and cut every word alike. With capitals on the text has the same letters but for their case, and where no
+    /// key is a small letter, the capital of each.
     pub fn check(&mut self) {
-        for habit in [&self.space, &self.line, &self.one] {
+        for habit in [&self.space, &self.line, &self.one, &self.capitals] {
             for keys in habit.keys.split(|&key| key == RESET) {
                 for typed in (1..=keys.len()).map(|count| &keys[..count]) {
                     let text = text_of(typed, calls::keys).expect("no key of the note is refused");
@@ -91,6 +96,11 @@ impl Note {
                     assert_eq!(text_of(typed, calls::host_keys).as_ref(), Some(&text));
                     #[cfg(engine)]
                     assert_eq!(crate::engine::text_of(&mut self.engine, typed), text);
+                    let capital = text_of(typed, calls::host_capital_keys).expect("no key of the note is refused");
+                    assert_eq!(capital.to_lowercase(), text.to_lowercase());
+                    if !typed.iter().any(|&key| letter(key).is_ascii_lowercase()) {
+                        assert_eq!(capital, text.to_uppercase());
+                    }
                 }
             }
         }

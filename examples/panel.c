@@ -3,12 +3,16 @@
  *
  *     cc -o panel panel.c $(pkg-config --cflags --libs pasdrongel)
  *     echo 'pha6n 2' | ./panel vni
+ *     echo 'NHAF AAN' | ./panel capitals
  *
  * A separator ends the word: the panel takes its text over, and resets the composition. So a key never meets a word that
  * is finished. In one composition the keys above give "phân " and no 2: 2 is a tone key, and the tone falls on the space.
  *
  * Under Telex a key that is pressed again takes back what it did: as gives á, and ass gives as. Before a key is taken as a
- * key it is offered to pasdrongel_undo, with the keys of the word so far. */
+ * key it is offered to pasdrongel_undo, with the keys of the word so far.
+ *
+ * The composition is made once, with its settings: a reset leaves them. With `capitals` the second line above gives NHÀ ÂN,
+ * without it NHà âN. */
 #include <pasdrongel.h>
 #include <stdio.h>
 #include <stdlib.h>
@@ -124,11 +128,33 @@ static int read_line(uint8_t *bytes, size_t *length)
     return byte != EOF || *length > 0;
 }
 
+/* Makes the composition as the command line has it; not if that has a word which says nothing. */
+static int begin(int count, char **words)
+{
+    uint32_t method = PASDRONGEL_TELEX, capitals = PASDRONGEL_CAPITALS_OFF;
+    int i;
+    for (i = 1; i < count; i++) {
+        if (strcmp(words[i], "vni") == 0)
+            method = PASDRONGEL_VNI;
+        else if (strcmp(words[i], "capitals") == 0)
+            capitals = PASDRONGEL_CAPITALS_ON;
+        else if (strcmp(words[i], "telex") != 0)
+            return 0;
+    }
+    must(pasdrongel_new(composition, sizeof composition, method));
+    must(pasdrongel_set_capitals(composition, sizeof composition, capitals));
+    return 1;
+}
+
 int main(int count, char **words)
 {
     uint8_t bytes[PASDRONGEL_LINE_BYTES + 1];
     uint32_t keys[PASDRONGEL_READ_ROOM], answer;
     size_t i, length, key_count;
+    if (!begin(count, words)) {
+        fputs("usage: panel [telex | vni] [capitals] < keys\n", stderr);
+        return 2;
+    }
     while (read_line(bytes, &length)) {
         answer = pasdrongel_read_utf8(bytes, length, keys, PASDRONGEL_READ_ROOM, &key_count);
         if (!done(answer)) {
@@ -136,8 +162,6 @@ int main(int count, char **words)
             continue;
         }
         line_length = 0;
-        must(pasdrongel_new(composition, sizeof composition,
-                            count > 1 && strcmp(words[1], "vni") == 0 ? PASDRONGEL_VNI : PASDRONGEL_TELEX));
         for (i = 0; i < key_count; i++)
             press(keys[i]);
         end_word();

@@ -22,7 +22,7 @@ extern "C" {
 
 /* The version of this header, and its three parts in one number. */
 #define PASDRONGEL_VERSION_MAJOR 0
-#define PASDRONGEL_VERSION_MINOR 2
+#define PASDRONGEL_VERSION_MINOR 3
 #define PASDRONGEL_VERSION_PATCH 0
 #define PASDRONGEL_VERSION \
     (PASDRONGEL_VERSION_MAJOR * 1000000 + PASDRONGEL_VERSION_MINOR * 1000 + PASDRONGEL_VERSION_PATCH)
@@ -100,6 +100,9 @@ extern "C" {
 /* The modes. */
 #define PASDRONGEL_VIETNAMESE 0
 #define PASDRONGEL_ENGLISH 1
+/* The setting of capitals. */
+#define PASDRONGEL_CAPITALS_OFF 0
+#define PASDRONGEL_CAPITALS_ON 1
 /* What becomes of the key that asked for an undo. */
 #define PASDRONGEL_APPEND 0
 #define PASDRONGEL_CONSUME 1
@@ -166,14 +169,14 @@ uint32_t pasdrongel_is_horn_key(uint32_t method, uint32_t key, uint32_t *yes);
  * or 0. Refuses by 1 if `base` or `key` is no letter. */
 uint32_t pasdrongel_mark_for(uint32_t method, uint32_t base, uint32_t key, uint32_t *mark);
 
-/* Compositions. A composition is what a grower is typing: its cells, the input method and the mode. It stands in `size`
- * bytes of the host at `state`, PASDRONGEL_COMPOSITION_BYTES of them, and a call finds and leaves it there. What the bytes
- * say is stated in docs/BYTES.md. A call that is given a composition refuses by 10 where the bytes are not that many, or
- * are not those of a sound composition; `state` may be NULL if `size` is 0, and is then refused. Two compositions are equal
- * exactly where their bytes are. */
+/* Compositions. A composition is what a grower is typing: its cells, the input method, the mode, and the setting of capitals.
+ * It stands in `size` bytes of the host at `state`, PASDRONGEL_COMPOSITION_BYTES of them, and a call finds and leaves it
+ * there. What the bytes say is stated in docs/BYTES.md. A call that is given a composition refuses by 10 where the bytes are
+ * not that many, or are not those of a sound composition; `state` may be NULL if `size` is 0, and is then refused. Two
+ * compositions are equal exactly where their bytes are. */
 
-/* Makes `state` an empty composition under the input method, in Vietnamese mode, whatever the bytes were. Refuses by 10 if
- * `size` is another number, or `method` is no method. */
+/* Makes `state` an empty composition under the input method, in Vietnamese mode, with capitals off, whatever the bytes were.
+ * Refuses by 10 if `size` is another number, or `method` is no method. */
 uint32_t pasdrongel_new(uint8_t *state, size_t size, uint32_t method);
 
 /* Are these the bytes of a sound composition? 0 if they are, 10 if they are not. */
@@ -185,19 +188,24 @@ uint32_t pasdrongel_method(const uint8_t *state, size_t size, uint32_t *method);
 /* The mode: `*mode` is PASDRONGEL_VIETNAMESE or PASDRONGEL_ENGLISH. `state` and `mode` lie apart. */
 uint32_t pasdrongel_mode(const uint8_t *state, size_t size, uint32_t *mode);
 
+/* The setting of capitals: `*on` is PASDRONGEL_CAPITALS_OFF or PASDRONGEL_CAPITALS_ON. `state` and `on` lie apart. */
+uint32_t pasdrongel_capitals(const uint8_t *state, size_t size, uint32_t *on);
+
 /* How many cells are in use, from 0 to PASDRONGEL_CELLS, to `*count`. The text has as many letters. `state` and `count` lie
  * apart. */
 uint32_t pasdrongel_count(const uint8_t *state, size_t size, size_t *count);
 
 /* Takes a key of the input method, and writes the text that stands then, as pasdrongel_text; in English mode the key changes
- * nothing, and that one letter is written. Refuses by 1 if `key` is no letter, by 2 if a letter must be appended and all
- * cells are used, by 3 if `room` is less than the letters; then the key is not taken. `text` may be NULL if `room` is 0.
- * `state`, `text` and `count` lie apart. */
+ * nothing, and that one letter is written. Where a key makes the pair of horned vowels, an o that was a capital is still one
+ * if capitals are on, and none any more if they are off. Refuses by 1 if `key` is no letter, by 2 if a letter must be
+ * appended and all cells are used, by 3 if `room` is less than the letters; then the key is not taken. `text` may be NULL if
+ * `room` is 0. `state`, `text` and `count` lie apart. */
 uint32_t pasdrongel_key(
     uint8_t *state, size_t size, uint32_t key, uint32_t *text, size_t room, size_t *count);
 
-/* The text, from the start of `text`, which has room for `room` letters, and their number to `*count`. Refuses by 3 if
- * `room` is less than the letters. `text` may be NULL if `room` is 0. `state`, `text` and `count` lie apart. */
+/* The text, from the start of `text`, which has room for `room` letters, and their number to `*count`. A capital that a mark
+ * or a tone has changed is shown as the setting of capitals says (pasdrongel_set_capitals). Refuses by 3 if `room` is less
+ * than the letters. `text` may be NULL if `room` is 0. `state`, `text` and `count` lie apart. */
 uint32_t pasdrongel_text(const uint8_t *state, size_t size, uint32_t *text, size_t room, size_t *count);
 
 /* Appends a letter as it is, in either mode: no key of the method. Refuses by 1 if `letter` is no letter, by 2 if all cells
@@ -223,17 +231,25 @@ uint32_t pasdrongel_remove_last(uint8_t *state, size_t size, uint32_t *text, siz
 uint32_t pasdrongel_undo(
     uint8_t *state, size_t size, uint32_t trigger, const uint32_t *raw, size_t length, uint32_t *behaviour);
 
-/* Empties the cells; method and mode stay. A host does so at each separator (pasdrongel_is_separator), when it has taken the
- * text over. Else a key of the next word may go to a vowel of the last: of the VNI keys pha6n, space, 2 the 2 becomes a tone,
- * and is lost. */
+/* Empties the cells; method, mode and capitals stay. A host does so at each separator (pasdrongel_is_separator), when it has
+ * taken the text over. Else a key of the next word may go to a vowel of the last: of the VNI keys pha6n, space, 2 the 2
+ * becomes a tone, and is lost. */
 uint32_t pasdrongel_reset(uint8_t *state, size_t size);
 
-/* Sets the input method and empties the cells; the mode stays. Refuses by 10 also if `method` is no method. */
+/* Sets the input method and empties the cells; mode and capitals stay. Refuses by 10 also if `method` is no method. */
 uint32_t pasdrongel_set_method(uint8_t *state, size_t size, uint32_t method);
 
 /* Sets the mode, PASDRONGEL_VIETNAMESE or PASDRONGEL_ENGLISH. Turning to English empties the cells, always; turning to
- * Vietnamese empties nothing. Refuses by 10 also if `mode` is neither. */
+ * Vietnamese empties nothing; method and capitals stay. Refuses by 10 also if `mode` is neither. */
 uint32_t pasdrongel_set_mode(uint8_t *state, size_t size, uint32_t mode);
+
+/* Sets how capitals are shown, PASDRONGEL_CAPITALS_OFF or PASDRONGEL_CAPITALS_ON. A cell is a capital if its letter was one
+ * when it was appended. Off, a capital that a mark or a tone has changed is shown small: the Telex keys AAN give U+00E2 and
+ * N. On, every capital is shown as one, with its mark and tone: they give U+00C2 and N. All else is shown the same under
+ * both. No cell changes, so that a host may set it at any time, and the next text shows it; but an o that has lost its
+ * capital to a horn (pasdrongel_key) does not get it back. A capital whose mark pasdrongel_undo takes back is a plain
+ * capital under both. Refuses by 10 also if `on` is neither. */
+uint32_t pasdrongel_set_capitals(uint8_t *state, size_t size, uint32_t on);
 
 /* The speller. A word has `length` letters. Refuses by 6 if `length` is over PASDRONGEL_WORD_LETTERS, by 1 if a code point
  * among them is no letter. */

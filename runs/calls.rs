@@ -23,6 +23,7 @@ pub mod host {
         pub fn pasdrongel_check_composition(state: *const u8, size: usize) -> u32;
         pub fn pasdrongel_method(state: *const u8, size: usize, method: *mut u32) -> u32;
         pub fn pasdrongel_mode(state: *const u8, size: usize, mode: *mut u32) -> u32;
+        pub fn pasdrongel_capitals(state: *const u8, size: usize, on: *mut u32) -> u32;
         pub fn pasdrongel_count(state: *const u8, size: usize, count: *mut usize) -> u32;
         pub fn pasdrongel_key(
             state: *mut u8, size: usize, key: u32, text: *mut u32, room: usize, count: *mut usize) -> u32;
@@ -36,6 +37,7 @@ pub mod host {
         pub fn pasdrongel_reset(state: *mut u8, size: usize) -> u32;
         pub fn pasdrongel_set_method(state: *mut u8, size: usize, method: u32) -> u32;
         pub fn pasdrongel_set_mode(state: *mut u8, size: usize, mode: u32) -> u32;
+        pub fn pasdrongel_set_capitals(state: *mut u8, size: usize, on: u32) -> u32;
         pub fn pasdrongel_cut(word: *const u32, length: usize, onset: *mut usize, vowels: *mut usize) -> u32;
         pub fn pasdrongel_verdict(word: *const u32, length: usize, yes: *mut u32) -> u32;
         pub fn pasdrongel_total(total: *mut usize) -> u32;

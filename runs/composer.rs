@@ -1,5 +1,6 @@
 //! The composer: every call on a composition against the Rust's engine, on the bytes that C lends. Each comparison is of
-//! one call: the number that it returns, the whole lent output, and every byte of the composition.
+//! one call: the number that it returns, the whole lent output, and every byte of the composition. Everything is compared
+//! twice, with capitals off, where the Rust alone answers, and on.
 
 use crate::calls::host;
 use crate::composition::{answered, show_bytes, Call, Composition, Left, Oracle, State, CELLS, HEAD, MOST_BYTES, ROOM, SIZE};
@@ -11,8 +12,8 @@ use crate::report::{Random, Run};
 use crate::session;
 
 pub const CALLS: &[&str] = &[
-    "new", "check_composition", "composition_bytes", "method", "mode", "count", "key", "text", "literal", "remove_last", "undo",
-    "reset", "set_method", "set_mode",
+    "new", "check_composition", "composition_bytes", "method", "mode", "capitals", "count", "key", "text", "literal",
+    "remove_last", "undo", "reset", "set_method", "set_mode", "set_capitals",
 ];
 
 /// The keys that compose under each method, and letters that its steps look at or pass over.
@@ -32,6 +33,9 @@ const LONG_STRINGS: [(InputMethod, &str, &str, usize); 3] = [
     (Vni, "VNI", "aeoud678912345b", 6),
 ];
 
+/// Keys that make pairs of u and o, marks and tones under either method, in either case.
+const CASED_KEYS: &str = "uUuUoOoOwW77aAdDeEsSfF1269bBqQ .";
+
 /// Numbers that are no letter: just outside the alphabet, and far from it.
 const OUTSIDE: [u32; 9] = [0x80, 0xff, 0x104, 0x300, 0x1efa, 0xd800, 0x110000, 0x80000061, 0xffffffff];
 
@@ -43,20 +47,27 @@ pub fn fixed() -> Vec<String> {
 }
 
 pub fn compare(run: &mut Run) {
-    let mut composer = Composer { run, oracle: Oracle::new() };
+    let mut composer = Composer { run, oracle: Oracle::new(), capitals: false };
     composer.size();
-    composer.strings(&SHORT_STRINGS);
-    composer.reaches();
-    composer.full();
-    composer.orders();
-    composer.undo();
-    composer.handed_in();
-    composer.rooms();
-    composer.unsound();
-    composer.pairs();
-    composer.sessions();
-    composer.one_engine();
-    composer.strings(&LONG_STRINGS);
+    for capitals in [false, true] {
+        composer.capitals = capitals;
+        composer.strings(&SHORT_STRINGS);
+        composer.reaches();
+        composer.full();
+        composer.orders();
+        composer.undo();
+        composer.handed_in();
+        composer.rooms();
+        composer.unsound();
+        composer.pairs();
+        composer.sessions();
+        composer.one_engine();
+    }
+    composer.turned();
+    for capitals in [false, true] {
+        composer.capitals = capitals;
+        composer.strings(&LONG_STRINGS);
+    }
 }
 
 pub fn codes(text: &str) -> Vec<u32> {
@@ -73,12 +84,7 @@ pub fn plain(base: char) -> Cell {
 }
 
 pub fn handed(method: InputMethod, cells: &[Cell]) -> Composition {
-    Composition { method, mode: Mode::Vietnamese, cells: cells.to_vec() }
-}
-
-/// Letters that were appended, and that no key composed.
-fn appended(method: InputMethod, letters: &str) -> State {
-    handed(method, &letters.chars().map(plain).collect::<Vec<Cell>>()).bytes()
+    Composition { cells: cells.to_vec(), ..Composition::new(method) }
 }
 
 /// Each base of `ODD_BASES`, marked and not, with some tones, with the flag on and off.
@@ -106,23 +112,62 @@ fn random_cell(random: &mut Random) -> Cell {
 pub fn random_composition(random: &mut Random, count: usize) -> Composition {
     let cells = (0..count).map(|_| random_cell(random)).collect();
     let mode = if random.below(8) == 0 { Mode::English } else { Mode::Vietnamese };
-    Composition { method: random.of(&[Telex, Vni]), mode, cells }
+    Composition { mode, cells, ..Composition::new(random.of(&[Telex, Vni])) }
+}
+
+/// What the same keys make under both settings of capitals: the compositions differ in that byte and in flags of ơ alone.
+fn but_for_capitals(state: &State) -> Option<Composition> {
+    let mut composition = Composition { capitals: false, ..Composition::read(state)? };
+    composition.cells.iter_mut().filter(|cell| cell.base == 'ơ').for_each(|cell| cell.upper = false);
+    Some(composition)
 }
 
 struct Composer<'a> {
     run: &'a mut Run,
     oracle: Oracle,
+    /// The setting of what is handed in.
+    capitals: bool,
 }
 
 impl Composer<'_> {
-    /// Compares one call on any bytes, and gives what the oracle leaves.
-    fn call(&mut self, bytes: &[u8], call: Call) -> Left {
-        let (ours, theirs) = (Left::of(bytes, call), self.oracle.left(bytes, call));
+    fn begin(&mut self, name: &str) {
+        self.run.begin(&[if self.capitals { "capitals on, " } else { "" }, name].concat());
+    }
+
+    /// With capitals on, keys and letters that have none among them are taken as capitals.
+    fn cased(&self, letters: &str) -> String {
+        let none = letters.to_lowercase() == letters;
+        if self.capitals && none { letters.to_uppercase() } else { letters.to_string() }
+    }
+
+    fn handed(&self, method: InputMethod, cells: &[Cell]) -> Composition {
+        Composition { capitals: self.capitals, ..handed(method, cells) }
+    }
+
+    /// Letters that were appended, and that no key composed.
+    fn appended(&self, method: InputMethod, letters: &str) -> State {
+        self.handed(method, &letters.chars().map(plain).collect::<Vec<Cell>>()).bytes()
+    }
+
+    fn random_composition(&mut self, count: usize) -> Composition {
+        Composition { capitals: self.capitals, ..random_composition(self.run.random(), count) }
+    }
+
+    /// Compares one call on any bytes with what must be left of it, and gives what is left.
+    fn against(&mut self, bytes: &[u8], call: Call, theirs: &Left) -> Left {
+        let ours = Left::of(bytes, call);
         let size = || {
             let (cells, numbers) = (bytes.get(2).copied().unwrap_or(0).into(), call.numbers());
             [vec![0; cells], numbers.clone(), numbers, bytes.iter().map(|&byte| byte.into()).collect()].concat()
         };
-        self.run.compare(call.name(), &ours, &theirs, size, || format!("{call:?}; on {}", show_bytes(bytes)));
+        self.run.compare(call.name(), &ours, theirs, size, || format!("{call:?}; on {}", show_bytes(bytes)));
+        ours
+    }
+
+    /// Compares one call on any bytes, and gives what the oracle leaves.
+    fn call(&mut self, bytes: &[u8], call: Call) -> Left {
+        let theirs = self.oracle.left(bytes, call);
+        self.against(bytes, call, &theirs);
         theirs
     }
 
@@ -158,8 +203,9 @@ impl Composer<'_> {
 
     fn strings(&mut self, kinds: &[(InputMethod, &str, &str, usize)]) {
         for &(method, name, keys, length) in kinds {
-            self.run.begin(&format!("key: every {name} string of up to {length} over `{keys}`"));
-            self.extend(&appended(method, ""), &codes(keys), length);
+            let keys = self.cased(keys);
+            self.begin(&format!("key: every {name} string of up to {length} over `{keys}`"));
+            self.extend(&self.appended(method, ""), &codes(&keys), length);
         }
     }
 
@@ -169,7 +215,7 @@ impl Composer<'_> {
             "a", "e", "o", "u", "d", "A", "E", "O", "U", "D", "uo", "Uo", "uO", "UO", "quo", "uou", "ua", "Ua", "qua", "QUa",
             "oa", "ưo",
         ];
-        self.run.begin("key: 0 to 9 letters between a letter and each key, of one kind");
+        self.begin("key: 0 to 9 letters between a letter and each key, of one kind");
         for method in [Telex, Vni] {
             let keys: Vec<u32> = keys_of(method).into_iter().chain(codes("WADEO")).collect();
             for start in STARTS {
@@ -177,14 +223,14 @@ impl Composer<'_> {
                     for filler in "bđ .iơAw71".chars() {
                         for lead in ["", "b", "uo bbbbbbbbbbb"] {
                             let filled = filler.to_string().repeat(between);
-                            let state = appended(method, &[lead, start, &filled].concat());
+                            let state = self.appended(method, &[lead, start, &filled].concat());
                             self.each_key(&state, &keys);
                         }
                     }
                 }
             }
         }
-        self.run.begin("key: 0 to 9 letters between a letter and each key, of any kind");
+        self.begin("key: 0 to 9 letters between a letter and each key, of any kind");
         for _ in self.run.times(20_000) {
             let random = self.run.random();
             let mut cells: Vec<Cell> = random.of(&STARTS).chars().map(plain).collect();
@@ -192,27 +238,27 @@ impl Composer<'_> {
                 cells.push(random_cell(random));
             }
             let method = random.of(&[Telex, Vni]);
-            let state = handed(method, &cells).bytes();
+            let state = self.handed(method, &cells).bytes();
             self.each_key(&state, &keys_of(method));
         }
     }
 
     fn pairs(&mut self) {
-        self.run.begin("key: every pair of letters, and each composing key after it");
+        self.begin("key: every pair of letters, and each composing key after it");
         for method in [Telex, Vni] {
             let keys = keys_of(method);
             for &first in alphabet() {
-                let one = self.key(&appended(method, ""), first);
+                let one = self.key(&self.appended(method, ""), first);
                 for &second in alphabet() {
                     let two = self.key(&one, second);
                     self.each_key(&two, &keys);
                 }
             }
         }
-        self.run.begin("key: every letter in English mode, room 0 to 2");
+        self.begin("key: every letter in English mode, room 0 to 2");
         for &letter in alphabet() {
             for cells in [vec![], vec![plain('a')]] {
-                let state = Composition { mode: Mode::English, ..handed(Telex, &cells) }.bytes();
+                let state = Composition { mode: Mode::English, ..self.handed(Telex, &cells) }.bytes();
                 (0..=2).for_each(|room| drop(self.call(&state, Call::Key(letter, room))));
             }
         }
@@ -221,28 +267,28 @@ impl Composer<'_> {
     /// Sound cells, whether a key makes them or not.
     fn handed_in(&mut self) {
         let odd = odd_cells();
-        self.run.begin("every call: each cell of a choice of odd ones, alone, and under every key and literal");
+        self.begin("every call: each cell of a choice of odd ones, alone, and under every key and literal");
         for &cell in &odd {
             for method in [Telex, Vni] {
-                let state = handed(method, &[cell]).bytes();
+                let state = self.handed(method, &[cell]).bytes();
                 self.others(&state);
                 self.each_key(&state, alphabet());
                 alphabet().iter().for_each(|&letter| drop(self.call(&state, Call::Literal(letter))));
             }
         }
-        self.run.begin("key: each pair of odd cells under each composing key");
+        self.begin("key: each pair of odd cells under each composing key");
         for &first in &odd {
             for &second in &odd {
                 for method in [Telex, Vni] {
-                    let state = handed(method, &[first, second]).bytes();
+                    let state = self.handed(method, &[first, second]).bytes();
                     self.each_key(&state, &keys_of(method));
                 }
             }
         }
-        self.run.begin("every call: random cells, 0 to 32 of them");
+        self.begin("every call: random cells, 0 to 32 of them");
         for _ in self.run.times(20_000) {
             let count = self.run.random().below(CELLS + 1);
-            let composition = random_composition(self.run.random(), count);
+            let composition = self.random_composition(count);
             let state = composition.bytes();
             self.others(&state);
             self.each_key(&state, &keys_of(composition.method));
@@ -254,14 +300,15 @@ impl Composer<'_> {
         use Call::*;
         for call in [
             New(0), New(1), Text(ROOM), RemoveLast(ROOM), Reset, SetMethod(0), SetMethod(1), SetMode(0), SetMode(1),
-            Undo('w'.into(), &codes("aw")), Undo('s'.into(), &codes("s")), CheckComposition, Method, Mode, Count,
+            SetCapitals(0), SetCapitals(1), Undo('w'.into(), &codes("aw")), Undo('s'.into(), &codes("s")), CheckComposition,
+            Method, Mode, Capitals, Count,
         ] {
             self.call(state, call);
         }
     }
 
     fn undo(&mut self) {
-        const MARKING: &str = "aeoudws";
+        let marking = self.cased("aeoudws");
         let marked = |base, tone, upper| Cell { base, mark: Some(base), tone, upper };
         let toned = |base, tone| Cell { base, mark: None, tone: Some(tone), upper: false };
         let stands: Vec<State> = [
@@ -272,9 +319,9 @@ impl Composer<'_> {
             vec![toned('a', '1'), toned('o', 's'), marked('ư', Some('f'), false), marked('đ', None, false), plain('ư')],
         ]
         .iter()
-        .map(|cells: &Vec<Cell>| handed(Telex, cells).bytes())
+        .map(|cells: &Vec<Cell>| self.handed(Telex, cells).bytes())
         .collect();
-        self.run.begin("undo: every letter as trigger, raw strings that end in it");
+        self.begin("undo: every letter as trigger, raw strings that end in it");
         for &trigger in alphabet() {
             for state in &stands {
                 self.call(state, Call::Undo(trigger, &[trigger]));
@@ -282,26 +329,27 @@ impl Composer<'_> {
             }
         }
         let triggers = codes("aeoudwsf1\0AWD");
-        self.run.begin(&format!("undo: every raw string of up to 5 over `{MARKING}`, each trigger, typed and handed in"));
+        self.begin(&format!("undo: every raw string of up to 5 over `{marking}`, each trigger, typed and handed in"));
+        let none = self.appended(Telex, "");
         let mut raws = vec![vec![]];
         for start in 0.. {
             let Some(raw) = raws.get(start).cloned() else { break };
             if raw.len() < 5 {
-                raws.extend(codes(MARKING).into_iter().map(|key| [&raw[..], &[key]].concat()));
+                raws.extend(codes(&marking).into_iter().map(|key| [&raw[..], &[key]].concat()));
             }
-            let typed = raw.iter().fold(appended(Telex, ""), |state, &key| self.key(&state, key));
-            let before = raw.iter().take(raw.len().saturating_sub(1)).fold(appended(Telex, ""), |s, &key| self.key(&s, key));
+            let typed = raw.iter().fold(none, |state, &key| self.key(&state, key));
+            let before = raw.iter().take(raw.len().saturating_sub(1)).fold(none, |state, &key| self.key(&state, key));
             for &trigger in &triggers {
                 for state in stands.iter().chain([&typed, &before]) {
                     self.call(state, Call::Undo(trigger, &raw));
                 }
             }
         }
-        self.run.begin("undo: random raw strings of up to 66 letters, capitals and foreign letters among them, both methods");
+        self.begin("undo: random raw strings of up to 66 letters, capitals and foreign letters among them, both methods");
         for _ in self.run.times(100_000) {
+            let count = self.run.random().below(8);
+            let state = self.random_composition(count).bytes();
             let random = self.run.random();
-            let count = random.below(8);
-            let state = random_composition(random, count).bytes();
             let length = if random.below(4) == 0 { random.below(WORD_LETTERS + 3) } else { random.below(6) };
             const POOL: &str = "aAeEoOuUdDwWsSfiyb1Ăđ";
             let mut raw: Vec<u32> = (0..length).map(|_| random.letter_of(POOL)).collect();
@@ -314,10 +362,10 @@ impl Composer<'_> {
     }
 
     fn rooms(&mut self) {
-        self.run.begin("key, text, remove_last: 0 to 32 cells, room 0 to 34");
+        self.begin("key, text, remove_last: 0 to 32 cells, room 0 to 34");
         for count in 0..=CELLS {
             for _ in self.run.times(4) {
-                let state = random_composition(self.run.random(), count).bytes();
+                let state = self.random_composition(count).bytes();
                 for room in 0..=CELLS + 2 {
                     for key in codes("aws71bW") {
                         self.call(&state, Call::Key(key, room));
@@ -330,12 +378,12 @@ impl Composer<'_> {
     }
 
     fn full(&mut self) {
-        self.run.begin("key, literal: every letter on 30, 31 and 32 cells, then text and remove_last");
+        self.begin("key, literal: every letter on 30, 31 and 32 cells, then text and remove_last");
         for method in [Telex, Vni] {
             for count in CELLS - 2..=CELLS {
                 for filler in ["b", "a", "uo", "a.", "đ"] {
-                    let cells: String = filler.chars().cycle().take(count).collect();
-                    let state = appended(method, &cells);
+                    let cells: String = self.cased(filler).chars().cycle().take(count).collect();
+                    let state = self.appended(method, &cells);
                     for &letter in alphabet() {
                         let keyed = self.key(&state, letter);
                         let keyed = self.key(&keyed, letter);
@@ -347,10 +395,10 @@ impl Composer<'_> {
                 }
             }
         }
-        self.run.begin("key, literal: numbers that are no letter, on 0, 1 and 32 cells, in either mode");
+        self.begin("key, literal: numbers that are no letter, on 0, 1 and 32 cells, in either mode");
         for count in [0, 1, CELLS] {
             for mode in [Mode::Vietnamese, Mode::English] {
-                let state = Composition { mode, ..handed(Telex, &vec![plain('a'); count]) }.bytes();
+                let state = Composition { mode, ..self.handed(Telex, &vec![plain('a'); count]) }.bytes();
                 for code in (0..0x2100).chain(OUTSIDE) {
                     self.call(&state, Call::Key(code, 0));
                     self.call(&state, Call::Key(code, ROOM));
@@ -362,10 +410,11 @@ impl Composer<'_> {
 
     /// Every byte of some compositions with every other value, and every other length: sound or not, as the oracle says.
     fn unsound(&mut self) {
-        self.run.begin("check_composition, key: every byte changed to every value");
+        self.begin("check_composition, key: every byte changed to every value");
         let odd = odd_cells();
         let cells: Vec<Cell> = odd.iter().copied().step_by(odd.len() / CELLS).take(CELLS).collect();
-        let changed: Vec<State> = [&[][..], &[plain('a')], &cells[..7], &cells].map(|cells| handed(Telex, cells).bytes()).into();
+        let some = [&[][..], &[plain('a')], &cells[..7], &cells];
+        let changed: Vec<State> = some.map(|cells| self.handed(Telex, cells).bytes()).into();
         for state in &changed {
             for place in 0..SIZE {
                 for value in 0..=0xff {
@@ -376,7 +425,7 @@ impl Composer<'_> {
                 }
             }
         }
-        self.run.begin("every call: every byte changed to some values, and bytes of every length");
+        self.begin("every call: every byte changed to some values, and bytes of every length");
         for state in &changed {
             for place in 0..SIZE {
                 for value in [0, 1, 2, 0x21, 0x61, 0x73, 0x80, 0xff] {
@@ -394,14 +443,24 @@ impl Composer<'_> {
                 self.call(&bytes[..length], Call::Key('a'.into(), ROOM));
             }
         }
-        self.run.begin("every call: two random bytes of random cells changed, and random bytes");
+        self.begin("every call: the byte of capitals changed to every value, and nothing else");
+        for state in &changed {
+            for value in 0..=0xff {
+                let mut other = *state;
+                other[3] = value;
+                self.others(&other);
+                self.call(&other, Call::Literal('a'.into()));
+                self.call(&other, Call::Key('a'.into(), ROOM));
+            }
+        }
+        self.begin("every call: two random bytes of random cells changed, and random bytes");
         for turn in self.run.times(50_000) {
-            let random = self.run.random();
-            let count = random.below(CELLS + 1);
-            let mut bytes = random_composition(random, count).bytes();
+            let count = self.run.random().below(CELLS + 1);
+            let mut bytes = self.random_composition(count).bytes();
+            let (random, capitals) = (self.run.random(), u8::from(self.capitals));
             if turn % 8 == 0 {
                 bytes = [(); SIZE].map(|()| random.next() as u8);
-                bytes[..HEAD].copy_from_slice(&[0, 0, random.below(40) as u8, 0, 0, 0, 0, 0]);
+                bytes[..HEAD].copy_from_slice(&[0, 0, random.below(40) as u8, capitals, 0, 0, 0, 0]);
             } else {
                 (0..2).for_each(|_| bytes[random.below(HEAD + 8 * count.max(1))] = random.next() as u8);
             }
@@ -412,22 +471,23 @@ impl Composer<'_> {
 
     /// Where several refusals hold at once, the order is 10, 6, 1, then 2, 4 or 5, last 3.
     fn orders(&mut self) {
-        self.run.begin("every call: several refusals at once");
+        self.begin("every call: several refusals at once");
         let mut states = Vec::new();
         for method in [Telex, Vni] {
             for cells in [vec![], vec![plain('b')], vec![plain('a'); CELLS], vec![plain('b'); CELLS]] {
                 for mode in [Mode::Vietnamese, Mode::English] {
-                    let state = Composition { mode, ..handed(method, &cells) }.bytes();
-                    let mut unsound = state;
-                    unsound[SIZE - 1] = 2;
-                    states.extend([state.to_vec(), unsound.to_vec(), state[..SIZE - 1].to_vec()]);
+                    let state = Composition { mode, ..self.handed(method, &cells) }.bytes();
+                    let (mut flag, mut setting) = (state, state);
+                    (flag[SIZE - 1], setting[3]) = (2, 2);
+                    states.extend([state.to_vec(), flag.to_vec(), setting.to_vec(), state[..SIZE - 1].to_vec()]);
                 }
             }
         }
         let letters = || codes("absw7\0").into_iter().chain(OUTSIDE);
         for state in &states {
             for number in [0, 1, 2, 3, 0xff, 0x100, 0x101, 0x80000000, 0xffffffff] {
-                for call in [Call::New(number), Call::SetMethod(number), Call::SetMode(number)] {
+                use Call::*;
+                for call in [New(number), SetMethod(number), SetMode(number), SetCapitals(number)] {
                     self.call(state, call);
                 }
             }
@@ -449,15 +509,18 @@ impl Composer<'_> {
         }
     }
 
-    /// Sessions as a host has them, with the text and the numbers asked for after each call.
+    /// Sessions as a host has them, with the text and the numbers asked for after each call. Where capitals are on at first,
+    /// they are turned off and on between the calls.
     fn sessions(&mut self) {
-        self.run.begin("every call: random sessions of up to 130 calls, text, method, mode and count after each");
+        self.begin("every call: random sessions of up to 130 calls, text, method, mode, capitals and count after each");
+        let kinds = if self.capitals { 220 } else { 200 };
         for _ in self.run.times(15_000) {
-            let mut state = appended(self.run.random().of(&[Telex, Vni]), "");
+            let method = self.run.random().of(&[Telex, Vni]);
+            let mut state = self.appended(method, "");
             let mut raw: Vec<u32> = Vec::new();
             for _ in 0..1 + self.run.random().below(130) {
                 let count = usize::from(state[2]);
-                let (kind, letter) = (self.run.random().below(200), random_key(self.run.random()));
+                let (kind, letter) = (self.run.random().below(kinds), random_key(self.run.random()));
                 let room = if self.run.random().below(8) > 0 { ROOM } else { self.run.random().below(count + 3) };
                 let call = match kind {
                     0..120 => Call::Key(letter, room),
@@ -471,7 +534,8 @@ impl Composer<'_> {
                     185..187 => Call::SetMode(1),
                     187..197 => Call::SetMode(0),
                     197..199 => Call::CheckComposition,
-                    _ => Call::New(self.run.random().below(2) as u32),
+                    199 => Call::New(self.run.random().below(2) as u32),
+                    _ => Call::SetCapitals(self.run.random().of(&[0, 1, 1])),
                 };
                 state = self.step(&state, call);
                 match call {
@@ -480,7 +544,7 @@ impl Composer<'_> {
                     Call::Reset => raw.clear(),
                     _ => {}
                 }
-                for asked in [Call::Text(ROOM), Call::Method, Call::Mode, Call::Count] {
+                for asked in [Call::Text(ROOM), Call::Method, Call::Mode, Call::Capitals, Call::Count] {
                     self.call(&state, asked);
                 }
             }
@@ -491,12 +555,12 @@ impl Composer<'_> {
 impl Composer<'_> {
     /// One engine of the Rust through a whole session, with nothing handed in: what it keeps beside the cells is seen so.
     fn one_engine(&mut self) {
-        self.run.begin(
+        self.begin(
             "key, literal, remove_last, undo, reset: sessions of up to 130 calls on one engine of the Rust, its numbers after each",
         );
         for _ in self.run.times(2_000) {
             let method = self.run.random().of(&[Telex, Vni]);
-            let (mut engine, mut state) = (BambooEngine::new(method), appended(method, ""));
+            let (mut engine, mut state) = (BambooEngine::new(method), self.appended(method, ""));
             let mut raw: Vec<u32> = Vec::new();
             for _ in 0..1 + self.run.random().below(130) {
                 let full = usize::from(state[2]) == CELLS;
@@ -508,13 +572,37 @@ impl Composer<'_> {
                     96..99 => Call::Undo(key, &raw[raw.len().saturating_sub(WORD_LETTERS)..]),
                     _ => Call::Reset,
                 };
-                for call in [call, Call::Method, Call::Mode, Call::Count] {
-                    let (ours, theirs) = (Left::of(&state, call), Left::by(&state, answered(&mut engine, call)));
-                    let size = || state.iter().map(|&byte| byte.into()).collect();
-                    self.run.compare(call.name(), &ours, &theirs, size, || format!("{call:?}; on {}", show_bytes(&state)));
+                for call in [call, Call::Method, Call::Mode, Call::Capitals, Call::Count] {
+                    let theirs = Left::by(&state, answered(&mut engine, self.capitals, call));
+                    self.against(&state, call, &theirs);
                     state = theirs.state();
                 }
                 raw.push(key);
+            }
+        }
+    }
+
+    /// The same keys with capitals off, on, and turned between them: bases, marks and tones are the same, and flags but for those
+    /// of ơ. Where capitals are off all along, every answer is that of one engine of the Rust.
+    fn turned(&mut self) {
+        self.run.begin("key, set_capitals: the same keys with capitals off, on and turned between: only flags of ơ differ");
+        for _ in self.run.times(20_000) {
+            let method = self.run.random().of(&[Telex, Vni]);
+            let (mut engine, mut off) = (BambooEngine::new(method), handed(method, &[]).bytes());
+            let mut others = [Composition { capitals: true, ..handed(method, &[]) }.bytes(), off];
+            for _ in 0..1 + self.run.random().below(CELLS) {
+                let key = Call::Key(self.run.random().letter_of(CASED_KEYS), ROOM);
+                let turn = Call::SetCapitals(self.run.random().below(2) as u32);
+                let theirs = Left::by(&off, answered(&mut engine, false, key));
+                off = self.against(&off, key, &theirs).state();
+                others[1] = self.step(&others[1], turn);
+                for other in &mut others {
+                    let (before, ours, theirs) = (*other, Left::of(&*other, key), self.oracle.left(&*other, key));
+                    *other = ours.state();
+                    let (ours, theirs) = ((ours, but_for_capitals(other)), (theirs, but_for_capitals(&off)));
+                    let size = || before.iter().map(|&byte| byte.into()).collect();
+                    self.run.compare("key", ours, theirs, size, || format!("{key:?}; on {}", show_bytes(&before)));
+                }
             }
         }
     }

@@ -1,5 +1,8 @@
 //! A composition on both sides: the bytes that C lends, and the Rust's engine with document 01's limits around it.
 //! A call keeps nothing between two calls, and neither does the oracle: what it answers depends on the bytes alone.
+//!
+//! Capitals are a setting that the Rust has not. Off, the answer is the Rust's. On, the cells are the Rust's but for one flag
+//! (`keep_flags`), and the text is shown anew (`capital_text`), each by its sentence of request 2026-01.
 
 use crate::calls::{host, GUARD, GUARD_BYTE, GUARD_COUNT, MARGIN};
 use crate::engine::bamboo::spy::{self, Cell};
@@ -10,7 +13,7 @@ use crate::oracle::{self, EMPTY, FULL, LONG, NO_UNDO, SHORT, UNSOUND, WORD_LETTE
 use std::fmt::{Debug, Formatter};
 
 pub const CELLS: usize = 32;
-/// The method, the mode, the count, and reserved bytes: 0 in a sound composition.
+/// The method, the mode, the count, capitals, and reserved bytes: 0 in a sound composition.
 pub const HEAD: usize = 8;
 pub const SIZE: usize = HEAD + 8 * CELLS;
 
@@ -32,10 +35,12 @@ pub enum Call<'a> {
     Reset,
     SetMethod(u32),
     SetMode(u32),
+    SetCapitals(u32),
     Undo(u32, &'a [u32]),
     CheckComposition,
     Method,
     Mode,
+    Capitals,
     Count,
 }
 
@@ -50,10 +55,12 @@ impl Call<'_> {
             Call::Reset => "reset",
             Call::SetMethod(_) => "set_method",
             Call::SetMode(_) => "set_mode",
+            Call::SetCapitals(_) => "set_capitals",
             Call::Undo(..) => "undo",
             Call::CheckComposition => "check_composition",
             Call::Method => "method",
             Call::Mode => "mode",
+            Call::Capitals => "capitals",
             Call::Count => "count",
         }
     }
@@ -61,11 +68,12 @@ impl Call<'_> {
     /// The numbers that it is given.
     pub fn numbers(&self) -> Vec<u32> {
         match *self {
-            Call::New(number) | Call::Literal(number) | Call::SetMethod(number) | Call::SetMode(number) => vec![number],
+            Call::New(number) | Call::SetMethod(number) | Call::SetMode(number) | Call::SetCapitals(number) => vec![number],
+            Call::Literal(letter) => vec![letter],
             Call::Key(key, room) => vec![key, room as u32],
             Call::Text(room) | Call::RemoveLast(room) => vec![room as u32],
             Call::Undo(trigger, raw) => [&[trigger], raw].concat(),
-            Call::Reset | Call::CheckComposition | Call::Method | Call::Mode | Call::Count => vec![],
+            Call::Reset | Call::CheckComposition | Call::Method | Call::Mode | Call::Capitals | Call::Count => vec![],
         }
     }
 }
@@ -74,12 +82,14 @@ impl Debug for Call<'_> {
     fn fmt(&self, f: &mut Formatter) -> std::fmt::Result {
         write!(f, "{}", self.name())?;
         match *self {
-            Call::New(number) | Call::SetMethod(number) | Call::SetMode(number) => write!(f, " {number}"),
+            Call::New(number) | Call::SetMethod(number) | Call::SetMode(number) | Call::SetCapitals(number) => {
+                write!(f, " {number}")
+            }
             Call::Key(key, room) => write!(f, " {}, room {room}", sign(key)),
             Call::Literal(letter) => write!(f, " {}", sign(letter)),
             Call::Text(room) | Call::RemoveLast(room) => write!(f, ", room {room}"),
             Call::Undo(trigger, raw) => write!(f, " {} {}", sign(trigger), bracketed(raw)),
-            Call::Reset | Call::CheckComposition | Call::Method | Call::Mode | Call::Count => Ok(()),
+            Call::Reset | Call::CheckComposition | Call::Method | Call::Mode | Call::Capitals | Call::Count => Ok(()),
         }
     }
 }
@@ -89,17 +99,19 @@ impl Debug for Call<'_> {
 pub struct Composition {
     pub method: InputMethod,
     pub mode: Mode,
+    pub capitals: bool,
     pub cells: Vec<Cell>,
 }
 
 impl Composition {
+    /// 2026-01: "Add a setting, off at first."
     pub fn new(method: InputMethod) -> Composition {
-        Composition { method, mode: Mode::Vietnamese, cells: Vec::new() }
+        Composition { method, mode: Mode::Vietnamese, capitals: false, cells: Vec::new() }
     }
 
     /// What the bytes spell, or None where they are not sound.
     pub fn read(bytes: &[u8]) -> Option<Composition> {
-        let &[method, mode, count, 0, 0, 0, 0, 0, ref cells @ ..] = bytes else { return None };
+        let &[method, mode, count, capitals, 0, 0, 0, 0, ref cells @ ..] = bytes else { return None };
         if bytes.len() != SIZE || usize::from(count) > CELLS {
             return None;
         }
@@ -108,7 +120,8 @@ impl Composition {
             return None;
         }
         let cells = used.chunks(8).map(read_cell).collect::<Option<_>>()?;
-        Some(Composition { method: method_of(method.into())?, mode: mode_of(mode.into())?, cells })
+        let (method, mode, capitals) = (method_of(method.into())?, mode_of(mode.into())?, capitals_of(capitals.into())?);
+        Some(Composition { method, mode, capitals, cells })
     }
 
     pub fn bytes(&self) -> State {
@@ -116,6 +129,7 @@ impl Composition {
         bytes[0] = u8::from(self.method == InputMethod::Vni);
         bytes[1] = u8::from(self.mode == Mode::English);
         bytes[2] = self.cells.len() as u8;
+        bytes[3] = u8::from(self.capitals);
         for (place, cell) in bytes[HEAD..].chunks_mut(8).zip(&self.cells) {
             let number = |letter: Option<char>| letter.map_or(0, u32::from);
             place[..4].copy_from_slice(&u32::from(cell.base).to_le_bytes());
@@ -127,12 +141,13 @@ impl Composition {
     }
 }
 
-/// `telex vietnamese ă,marked,s A,capital U+0020`.
+/// `telex vietnamese ă,marked,s A,capital U+0020`; with capitals on, `telex vietnamese capitals a`.
 impl Debug for Composition {
     fn fmt(&self, f: &mut Formatter) -> std::fmt::Result {
         let method = if self.method == InputMethod::Telex { "telex" } else { "vni" };
         let mode = if self.mode == Mode::Vietnamese { "vietnamese" } else { "english" };
-        write!(f, "{method} {mode} {}", spaced(self.cells.iter().copied(), show_cell))
+        let capitals = if self.capitals { " capitals" } else { "" };
+        write!(f, "{method} {mode}{capitals} {}", spaced(self.cells.iter().copied(), show_cell))
     }
 }
 
@@ -149,6 +164,10 @@ fn method_of(number: u32) -> Option<InputMethod> {
 
 fn mode_of(number: u32) -> Option<Mode> {
     [Mode::Vietnamese, Mode::English].get(number as usize).copied()
+}
+
+fn capitals_of(number: u32) -> Option<bool> {
+    [false, true].get(number as usize).copied()
 }
 
 /// Document 01: "base in the alphabet; mark absent, or equal to the base and one of ă â ê ô ơ ư đ; tone absent or one of
@@ -198,20 +217,24 @@ impl Oracle {
             method_of(method).ok_or(UNSOUND)?;
             let mut other = BambooEngine::new(before.method);
             spy::hand_in(&mut other, &before.cells, before.mode);
-            return answered(&mut other, call);
+            return answered(&mut other, before.capitals, call);
         }
         let engine = if before.method == InputMethod::Telex { &mut self.telex } else { &mut self.vni };
         spy::hand_in(engine, &before.cells, before.mode);
-        answered(engine, call)
+        answered(engine, before.capitals, call)
     }
 }
 
-/// What an engine answers as it stands, with 01's refusals around it.
-pub fn answered(engine: &mut BambooEngine, call: Call) -> Result<Done, u32> {
+/// What an engine answers as it stands under a setting of capitals, with 01's refusals around it.
+pub fn answered(engine: &mut BambooEngine, mut capitals: bool, call: Call) -> Result<Done, u32> {
     let (mut text, mut number, mut cells) = (None, None, None);
     match call {
         Call::Key(key, room) => {
-            let written = engine.process_key(oracle::letter(key)?).expect("a key is answered by a text");
+            let (key, before) = (oracle::letter(key)?, spy::cells(engine).collect::<Vec<Cell>>());
+            let written = engine.process_key(key).expect("a key is answered by a text");
+            if capitals {
+                keep_flags(engine, &before);
+            }
             text = Some((written, room));
         }
         Call::Literal(letter) => engine.append_literal(oracle::letter(letter)?),
@@ -220,6 +243,8 @@ pub fn answered(engine: &mut BambooEngine, call: Call) -> Result<Done, u32> {
         Call::Reset => engine.reset(),
         Call::SetMethod(method) => engine.set_method(method_of(method).ok_or(UNSOUND)?),
         Call::SetMode(mode) => engine.set_enabled(mode_of(mode).ok_or(UNSOUND)? == Mode::Vietnamese),
+        // 2026-01: "Changing it leaves the cells."
+        Call::SetCapitals(on) => capitals = capitals_of(on).ok_or(UNSOUND)?,
         Call::Undo(trigger, raw) => {
             if raw.len() > WORD_LETTERS {
                 return Err(LONG);
@@ -233,20 +258,46 @@ pub fn answered(engine: &mut BambooEngine, call: Call) -> Result<Done, u32> {
         }
         Call::Method => number = Some(u32::from(spy::method(engine) == InputMethod::Vni)),
         Call::Mode => number = Some(u32::from(!engine.is_enabled())),
+        Call::Capitals => number = Some(u32::from(capitals)),
         Call::Count => cells = Some(spy::cells(engine).count()),
         Call::CheckComposition | Call::New(_) => {}
     }
-    let composition = composition_of(engine);
+    let composition = composition_of(engine, capitals);
     if composition.cells.len() > CELLS {
         return Err(FULL);
     }
-    let text = text.map(|(text, room)| fitting(&text, room)).transpose()?;
+    // 01: "in English mode the key call writes that one letter", whatever the setting is.
+    let passed = matches!(call, Call::Key(..)) && composition.mode == Mode::English;
+    let mut shown = |written| if capitals && !passed { capital_text(engine) } else { written };
+    let text = text.map(|(written, room)| fitting(&shown(written), room)).transpose()?;
     Ok(Done { composition, text, number, cells })
 }
 
-fn composition_of(engine: &BambooEngine) -> Composition {
+/// 2026-01: "in the uo step ơ keeps the o's own flag". So does the ơ of the mark step, in the Rust too: after a key, an ơ that
+/// stands where an o stood has its flag.
+fn keep_flags(engine: &mut BambooEngine, before: &[Cell]) {
+    let flag = |(place, cell): (usize, Cell)| match before.get(place) {
+        Some(o) if o.base.eq_ignore_ascii_case(&'o') && cell.base == 'ơ' => o.upper,
+        _ => cell.upper,
+    };
+    let flags: Vec<bool> = spy::cells(engine).enumerate().map(flag).collect();
+    spy::set_flags(engine, &flags);
+}
+
+/// 2026-01: "When on, a flagged cell shows the Unicode capital of its letter, tone included". The letter with its tone is what
+/// the Rust shows of a cell that is not flagged; such a cell shows the same under both settings.
+fn capital_text(engine: &mut BambooEngine) -> String {
+    let flags: Vec<bool> = spy::cells(engine).map(|cell| cell.upper).collect();
+    spy::set_flags(engine, &vec![false; flags.len()]);
+    let letters = engine.get_output();
+    spy::set_flags(engine, &flags);
+    let capital = |letter| oracle::letter(oracle::upper(letter)).expect("a capital is a letter");
+    std::iter::zip(letters.chars(), flags).map(|(letter, flag)| if flag { capital(letter) } else { letter }).collect()
+}
+
+fn composition_of(engine: &BambooEngine, capitals: bool) -> Composition {
     let mode = if engine.is_enabled() { Mode::Vietnamese } else { Mode::English };
-    Composition { method: spy::method(engine), mode, cells: spy::cells(engine).collect() }
+    Composition { method: spy::method(engine), mode, capitals, cells: spy::cells(engine).collect() }
 }
 
 fn fitting(text: &str, room: usize) -> Result<Vec<u32>, u32> {
@@ -309,12 +360,14 @@ impl Left {
                 Call::Reset => host::pasdrongel_reset(state, length),
                 Call::SetMethod(method) => host::pasdrongel_set_method(state, length, method),
                 Call::SetMode(mode) => host::pasdrongel_set_mode(state, length, mode),
+                Call::SetCapitals(on) => host::pasdrongel_set_capitals(state, length, on),
                 Call::Undo(trigger, raw) => {
                     host::pasdrongel_undo(state, length, trigger, raw.as_ptr(), raw.len(), number)
                 }
                 Call::CheckComposition => host::pasdrongel_check_composition(state, length),
                 Call::Method => host::pasdrongel_method(state, length, number),
                 Call::Mode => host::pasdrongel_mode(state, length, number),
+                Call::Capitals => host::pasdrongel_capitals(state, length, number),
                 Call::Count => host::pasdrongel_count(state, length, cells),
             }
         };
@@ -325,7 +378,7 @@ impl Left {
         self.refusal
     }
 
-    /// The number that the call gives: what becomes of an undo's key, the method, the mode, or how many cells there are.
+    /// The number that the call gives: what becomes of an undo's key, a setting, or how many cells there are.
     pub fn number(&self) -> Option<usize> {
         let number = Some(self.number as usize).filter(|&number| number != GUARD as usize);
         number.or(Some(self.cells).filter(|&cells| cells != GUARD_COUNT))

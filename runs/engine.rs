@@ -47,6 +47,11 @@ pub mod bamboo {
             engine.mode = mode;
         }
 
+        /// Sets the flag of each cell, and nothing else of the engine.
+        pub fn set_flags(engine: &mut BambooEngine, flags: &[bool]) {
+            engine.composition.iter_mut().zip(flags).for_each(|(cell, &flag)| cell.is_upper = flag);
+        }
+
         pub fn method(engine: &BambooEngine) -> InputMethod {
             engine.rules.method
         }

@@ -120,20 +120,32 @@ impl Session {
 
 pub fn fixed() -> Vec<String> {
     let mut lines = examples();
-    lines.extend(rules());
+    lines.extend(rules(typed));
     lines.extend(tones());
-    lines.extend(words());
+    lines.extend(words(typed));
     lines.extend(reaches());
     lines.extend(calls());
     lines.extend(undos());
     lines.extend(odd());
     lines.extend(unsound());
     lines.extend(random());
+    lines.extend(capitals());
+    lines.extend(capital_calls());
+    lines.extend(turned());
     lines
 }
 
 fn typed(method: InputMethod, keys: &str) -> String {
     Session::new(method).typed(keys).line()
+}
+
+/// The same with capitals on.
+fn typed_on(method: InputMethod, keys: &str) -> String {
+    on(method).typed(keys).line()
+}
+
+fn on(method: InputMethod) -> Session {
+    Session::new(method).named(Call::SetCapitals(1))
 }
 
 /// "Examples to hold it to" of document 01.
@@ -155,7 +167,7 @@ fn examples() -> Vec<String> {
 }
 
 /// Each mark rule in either case of its two letters, on a toned letter, and after another mark.
-fn rules() -> Vec<String> {
+fn rules(typed: fn(InputMethod, &str) -> String) -> Vec<String> {
     let mut lines = Vec::new();
     for (method, rules, tone) in [(Telex, "aw aa ee oo ow uw dd", "s"), (Vni, "a6 e6 o6 o7 u7 a8 d9", "1")] {
         for rule in rules.split(' ') {
@@ -208,7 +220,7 @@ fn tones() -> Vec<String> {
     lines
 }
 
-fn words() -> Vec<String> {
+fn words(typed: fn(InputMethod, &str) -> String) -> Vec<String> {
     const TELEX: &str = "tieengs Vieetj nguwowif dduwowngf nghieeng khuyru thuowr quaanf giowf giuwongf hoaf khoer tuys muoons \
         buoonf uoonfg banhs chuwax ddaays nghix nguwowfi ngwowif rau huees bacsf basc HAF NOOIJ DDaf LAJT Ddoongf aas aww oww \
         ddd dddd uww eee ooo aaa ww w d s";
@@ -232,7 +244,7 @@ fn reaches() -> Vec<String> {
 }
 
 /// The calls that only tell of a composition, but for its text.
-const ASKED: [Call; 4] = [Call::CheckComposition, Call::Method, Call::Mode, Call::Count];
+const ASKED: [Call; 5] = [Call::CheckComposition, Call::Method, Call::Mode, Call::Capitals, Call::Count];
 
 /// Rooms, removal, literals, reset, the settings, the numbers and English mode.
 fn calls() -> Vec<String> {
@@ -254,7 +266,7 @@ fn calls() -> Vec<String> {
         lines.push(start("a").named(Call::SetMode(1)).named(Call::Literal('A'.into())).named(call).line());
     }
     for number in [0, 1, 2, 255, 256, u32::MAX] {
-        for call in [Call::New(number), Call::SetMethod(number), Call::SetMode(number)] {
+        for call in [Call::New(number), Call::SetMethod(number), Call::SetMode(number), Call::SetCapitals(number)] {
             lines.push(start("Uows").named(call).line());
             lines.push(start("Uows").named(call).typed("a6").line());
             lines.push(start("o").named(Call::SetMode(1)).named(Call::Literal('s'.into())).named(call).line());
@@ -329,7 +341,8 @@ fn unsound() -> Vec<String> {
     let session = || Session::handed(&handed(Telex, &cells));
     let mut lines = Vec::new();
     for (place, values) in [
-        (0, &[1, 2, 255][..]), (1, &[1, 2, 255]), (2, &[2, 4, 32, 33, 255]), (3, &[1, 255]), (4, &[1]), (5, &[1]), (6, &[1]), (7, &[1, 255]),
+        (0, &[1, 2, 255][..]), (1, &[1, 2, 255]), (2, &[2, 4, 32, 33, 255]), (3, &[1, 2, 255]), (4, &[1]), (5, &[1]), (6, &[1]),
+        (7, &[1, 255]),
         (8, &[0x62, 0x80]), (9, &[1, 2]), (10, &[1]), (11, &[1, 255]), (12, &[0x61, 1]), (13, &[1]), (14, &[1, 0x31, 0x36, 0x61, 0x73, 0x80]),
         (15, &[1, 2, 255]), (16, &[2, 4, 0xe2]), (17, &[0, 2]), (18, &[1]), (20, &[0, 2, 0xe2]), (21, &[0, 2]), (22, &[0, 0x6a, 0x7a]),
         (23, &[0, 2]), (32, &[1]), (36, &[1]), (38, &[0x73]), (39, &[1]), (SIZE - 8, &[0x61]), (SIZE - 2, &[0x73]), (SIZE - 1, &[1]),
@@ -344,7 +357,7 @@ fn unsound() -> Vec<String> {
     for length in [0, 1, 2, 3, HEAD, HEAD + 8, SIZE - 1, SIZE + 1, SIZE + 8] {
         let changes = [
             Call::Text(ROOM), Call::RemoveLast(ROOM), Call::Reset, Call::New(0), Call::SetMethod(0), Call::SetMode(0),
-            Call::Literal('a'.into()), Call::Key('a'.into(), ROOM),
+            Call::SetCapitals(0), Call::Literal('a'.into()), Call::Key('a'.into(), ROOM),
         ];
         for call in ASKED.into_iter().chain(changes) {
             let shorter = session().length(length);
@@ -384,4 +397,105 @@ fn random() -> Vec<String> {
             session.named(Call::Text(ROOM)).line()
         })
         .collect()
+}
+
+/// Capitals on: request 2026-01's own case and 01's in capitals, each rule, each tone on each vowel, words in capitals, and cells
+/// that no key makes.
+fn capitals() -> Vec<String> {
+    let mut lines: Vec<String> = [
+        "AAN", "As", "DD", "dD", "UOW", "uOw", "Uow", "QUAR", "UOSW", "XUAW", "DAD", "OSAF", "UOWS", "GIF", "QUOW", "QUAW", "A.S",
+        "ABBBBW", "ABBBBBW", "UOBBBBW", "UOBBBBBW", "UAW", "QU", "dad", "aan", "aS", "AaN", "aAN", "uOsw", "uOws", "hUOngw",
+        "quOw",
+    ]
+    .map(|keys| typed_on(Telex, keys))
+    .to_vec();
+    lines.extend(["PHA6N", "A61", "D9", "d9", "PHA6N 2", "UO7", "uO7", "Uo7", "U7O7", "a61"].map(|keys| typed_on(Vni, keys)));
+    lines.extend(rules(typed_on));
+    for (method, vowels, tones) in [
+        (Telex, "A AW AA E EE I O OO OW U UW Y", "SFRXJ"), (Vni, "A A8 A6 E E6 I O O6 O7 U U7 Y", "12345"),
+    ] {
+        for vowel in vowels.split(' ') {
+            lines.extend(tones.chars().map(|tone| typed_on(method, &format!("{vowel}{tone}"))));
+        }
+    }
+    lines.extend(words(|method, keys| typed_on(method, &keys.to_uppercase())));
+    for cell in odd_cells() {
+        let composition = Composition { capitals: true, ..handed(Telex, &[cell]) };
+        lines.push(Session::handed(&composition).named(Call::Text(ROOM)).line());
+    }
+    lines
+}
+
+/// Every call with capitals on: which of them keep the setting, and what they show.
+fn capital_calls() -> Vec<String> {
+    let start = |keys: &str| on(Telex).typed(keys);
+    let mut lines = vec![Session::new(Telex).named(Call::Capitals).line(), Session::new(Vni).named(Call::Capitals).line()];
+    for room in 0..=3 {
+        lines.push(start("DD").room(room).typed("A").line());
+        lines.push(start("DDA").room(room).typed("S").line());
+        lines.push(start("DDA").room(room).named(Call::Text(room)).line());
+        lines.push(start("DDA").room(room).named(Call::RemoveLast(room)).line());
+        lines.push(start("A").named(Call::SetMode(1)).room(room).typed("w").line());
+    }
+    let changes = [
+        Call::Text(ROOM), Call::RemoveLast(ROOM), Call::Reset, Call::Literal('Ầ'.into()), Call::Literal('ầ'.into()), Call::New(0),
+        Call::New(1), Call::SetMethod(0), Call::SetMethod(1), Call::SetMethod(2), Call::SetMode(0), Call::SetMode(1),
+        Call::SetMode(2), Call::SetCapitals(0), Call::SetCapitals(1), Call::SetCapitals(2), Call::SetCapitals(255),
+        Call::SetCapitals(256), Call::SetCapitals(257), Call::SetCapitals(u32::MAX),
+    ];
+    for call in changes.into_iter().chain(ASKED) {
+        lines.push(start("").named(call).line());
+        lines.push(start("hUOWS").named(call).line());
+        lines.push(start("hUOWS").named(call).named(Call::Capitals).line());
+        lines.push(start("hUOWS").named(call).named(Call::Text(ROOM)).line());
+        lines.push(start("hUOWS").named(call).typed("DAD61").line());
+        lines.push(start("A").named(Call::SetMode(1)).named(Call::Literal('Đ'.into())).named(call).line());
+        lines.push(start("A").named(Call::SetMode(1)).named(call).typed("ấ").line());
+    }
+    for keys in ["AW", "AA", "EE", "OO", "OW", "UW", "DD", "UOW", "uOw", "Uow", "aS", "AS", "aw", "dD", "Dd"] {
+        let trigger = keys.chars().last().expect("keys end in one");
+        lines.push(start(keys).undo(trigger, keys).line());
+        lines.push(start(keys).undo(trigger, keys).named(Call::Text(ROOM)).line());
+        lines.push(start(&[keys, "S"].concat()).undo('s', &[keys, "S"].concat()).named(Call::Text(ROOM)).line());
+        lines.push(start(&[keys, "S"].concat()).named(Call::RemoveLast(ROOM)).line());
+        lines.push(start(keys).named(Call::SetCapitals(0)).undo(trigger, keys).named(Call::Text(ROOM)).line());
+    }
+    lines
+}
+
+/// The setting turned between keys: the cells stay, and only an ơ that is made meanwhile goes by it.
+fn turned() -> Vec<String> {
+    let turn = |session: Session, on: u32| session.named(Call::SetCapitals(on));
+    let mut lines = Vec::new();
+    for keys in ["AAN", "UOW", "uOw", "Uow", "UOSW", "DAD", "OSAF", "QUAR", "XUAW", "HUOWNGS"] {
+        for half in 0..=keys.len() {
+            let (first, then) = keys.split_at(half);
+            lines.push(turn(Session::new(Telex).typed(first), 1).typed(then).named(Call::Text(ROOM)).line());
+            lines.push(turn(on(Telex).typed(first), 0).typed(then).named(Call::Text(ROOM)).line());
+            lines.push(turn(turn(on(Telex).typed(first), 0).typed(then), 1).named(Call::Text(ROOM)).line());
+        }
+    }
+    let mut random = Random(4);
+    for turn in 0..100 {
+        let mut session = if turn % 3 == 0 {
+            let count = random.below(12);
+            Session::handed(&Composition { capitals: random.below(2) == 0, ..random_composition(&mut random, count) })
+        } else {
+            on(random.of(&[Telex, Vni]))
+        };
+        for _ in 0..1 + random.below(24) {
+            let key = random_key(&mut random);
+            session = match random.below(20) {
+                0..8 => session.keys(&[key]),
+                8..14 => session.keys(&[random.letter_of("uUoOwWaAdD7")]),
+                14 => session.named(Call::Literal(key)),
+                15 => session.named(Call::RemoveLast(ROOM)),
+                16 => session.named(Call::SetMode(random.below(8) as u32 / 7)),
+                17 => session.undo('w', "uow"),
+                _ => session.named(Call::SetCapitals(random.of(&[0, 1, 1]))),
+            };
+        }
+        lines.push(session.named(Call::Text(ROOM)).line());
+    }
+    lines
 }

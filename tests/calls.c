@@ -238,6 +238,12 @@ static uint32_t set_mode(uint32_t mode)
     return end_of_call(pasdrongel_set_mode(given(), state_size, mode), THE_STATE);
 }
 
+static uint32_t set_capitals(uint32_t on)
+{
+    begin();
+    return end_of_call(pasdrongel_set_capitals(given(), state_size, on), THE_STATE);
+}
+
 static uint32_t undo_raw(uint32_t trigger, const uint32_t *raw, size_t length)
 {
     begin();
@@ -444,6 +450,7 @@ static void unsound(void)
     FACT(check_composition() == PASDRONGEL_REFUSED_UNSOUND);
     FACT(of_state(pasdrongel_method) == PASDRONGEL_REFUSED_UNSOUND);
     FACT(of_state(pasdrongel_mode) == PASDRONGEL_REFUSED_UNSOUND);
+    FACT(of_state(pasdrongel_capitals) == PASDRONGEL_REFUSED_UNSOUND);
     FACT(count_cells() == PASDRONGEL_REFUSED_UNSOUND);
     FACT(key(FOREIGN, 0) == PASDRONGEL_REFUSED_UNSOUND);
     FACT(key('a', PASDRONGEL_TEXT_ROOM) == PASDRONGEL_REFUSED_UNSOUND);
@@ -456,6 +463,9 @@ static void unsound(void)
     FACT(reset() == PASDRONGEL_REFUSED_UNSOUND);
     FACT(set_method(PASDRONGEL_VNI) == PASDRONGEL_REFUSED_UNSOUND);
     FACT(set_mode(PASDRONGEL_ENGLISH) == PASDRONGEL_REFUSED_UNSOUND);
+    FACT(set_capitals(PASDRONGEL_CAPITALS_OFF) == PASDRONGEL_REFUSED_UNSOUND);
+    FACT(set_capitals(PASDRONGEL_CAPITALS_ON) == PASDRONGEL_REFUSED_UNSOUND);
+    FACT(set_capitals(2) == PASDRONGEL_REFUSED_UNSOUND);
     FACT(undo_raw(FOREIGN, raw, PASDRONGEL_WORD_LETTERS + 1) == PASDRONGEL_REFUSED_UNSOUND);
     FACT(undo('s', "as") == PASDRONGEL_REFUSED_UNSOUND);
 }
@@ -484,7 +494,7 @@ static void soundness_facts(void)
     for (state_size = STATE - 1; state_size <= STATE + 1; state_size += 2)
         unsound();
     state_size = STATE;
-    /* bytes that spell no method, mode, count or cell: a cell with mark, tone and flag, and one without */
+    /* bytes that spell no method, mode, count, setting of capitals or cell: a cell with mark, tone and flag, and one without */
     fresh(PASDRONGEL_TELEX);
     type("DDaf");
     FACT(shows("đà") && state[2] == 2 && cell(0)[7] == 1 && cell(1)[6] == 'f');
@@ -494,10 +504,18 @@ static void soundness_facts(void)
     unsound_at(2, 33);
     unsound_at(2, 0xff);
     unsound_at(2, 1);                         /* the second cell stands past the count */
-    for (i = 3; i < HEAD; i++) {              /* the reserved bytes are 0 */
+    unsound_at(3, 2);
+    unsound_at(3, 0x80);
+    unsound_at(3, 0xff);
+    for (i = 4; i < HEAD; i++) {              /* the reserved bytes are 0 */
         unsound_at(i, 1);
         unsound_at(i, 0xff);
     }
+    state[3] = PASDRONGEL_CAPITALS_ON;        /* and so they are with capitals on */
+    FACT(check_composition() == PASDRONGEL_DONE && shows("Đà"));
+    for (i = 4; i < HEAD; i++)
+        unsound_at(i, 1);
+    state[3] = PASDRONGEL_CAPITALS_OFF;
     for (i = 0; i < 6; i++)
         unsound_at(HEAD + i, (uint8_t)(cell(0)[i] ^ 0x10)); /* a mark that is not its base, a base that is no letter */
     unsound_at(HEAD + 6, 'z');
@@ -554,6 +572,12 @@ static int has(uint32_t method, uint32_t mode, size_t cells)
 {
     return of_state(pasdrongel_method) == PASDRONGEL_DONE && number == method
         && of_state(pasdrongel_mode) == PASDRONGEL_DONE && number == mode && count_cells() == PASDRONGEL_DONE && count == cells;
+}
+
+/* Is capitals on or off, by the call and by the byte? */
+static int capitals_are(uint32_t on)
+{
+    return of_state(pasdrongel_capitals) == PASDRONGEL_DONE && number == on && state[3] == on;
 }
 
 /* The numbers of a composition; that they refuse by 10, `unsound` asks. */
@@ -702,6 +726,153 @@ static void change_facts(void)
     FACT(literal('a') == PASDRONGEL_DONE && set_mode(PASDRONGEL_VIETNAMESE) == PASDRONGEL_DONE && shows("a"));
     type("s");
     FACT(wrote("á"));
+}
+
+/* Sets capitals; that byte alone has changed. */
+static int turns(uint32_t on)
+{
+    uint8_t expected[STATE];
+    memcpy(expected, state, STATE);
+    expected[3] = (uint8_t)on;
+    return set_capitals(on) == PASDRONGEL_DONE && memcmp(state, expected, STATE) == 0 && capitals_are(on);
+}
+
+static int types_with(uint32_t on, uint32_t method, const char *keys, const char *expected)
+{
+    fresh(method);
+    FACT(turns(on));
+    type(keys);
+    return wrote(expected) && shows(expected) && capitals_are(on);
+}
+
+/* What the keys give off and on. A cell that is no capital is the same under both, and so is what the keys have not changed. */
+static void capital_examples(void)
+{
+    static const struct {
+        uint32_t method;
+        const char *keys, *off, *on;
+    } examples[] = {
+        {PASDRONGEL_TELEX, "AAN", "âN", "ÂN"}, {PASDRONGEL_TELEX, "As", "á", "Á"}, {PASDRONGEL_TELEX, "AS", "á", "Á"},
+        {PASDRONGEL_TELEX, "DD", "đ", "Đ"}, {PASDRONGEL_TELEX, "Dd", "đ", "Đ"}, {PASDRONGEL_TELEX, "dD", "đ", "đ"},
+        {PASDRONGEL_TELEX, "aA", "â", "â"}, {PASDRONGEL_TELEX, "aS", "á", "á"}, {PASDRONGEL_TELEX, "UOW", "ươ", "ƯƠ"},
+        {PASDRONGEL_TELEX, "uOw", "ươ", "ưƠ"}, {PASDRONGEL_TELEX, "Uow", "ươ", "Ươ"}, {PASDRONGEL_TELEX, "uoW", "ươ", "ươ"},
+        {PASDRONGEL_TELEX, "UOWS", "ướ", "ƯỚ"}, {PASDRONGEL_TELEX, "UOSW", "ươ", "ƯƠ"}, {PASDRONGEL_TELEX, "uOsw", "ươ", "ưƠ"},
+        {PASDRONGEL_TELEX, "QUAR", "QUả", "QUẢ"}, {PASDRONGEL_TELEX, "Quar", "Quả", "Quả"}, {PASDRONGEL_TELEX, "GIF", "Gì", "GÌ"},
+        {PASDRONGEL_TELEX, "DAD", "đA", "ĐA"}, {PASDRONGEL_TELEX, "OSAF", "óà", "ÓÀ"}, {PASDRONGEL_TELEX, "QUOW", "Qươ", "QƯƠ"},
+        {PASDRONGEL_TELEX, "QUAW", "QUă", "QUĂ"}, {PASDRONGEL_TELEX, "XUAW", "XưA", "XƯA"}, {PASDRONGEL_TELEX, "A.S", "A.", "A."},
+        {PASDRONGEL_TELEX, "UOBBBBW", "ươBBBB", "ƯƠBBBB"}, {PASDRONGEL_TELEX, "UOBBBBBW", "UOBBBBBW", "UOBBBBBW"},
+        {PASDRONGEL_TELEX, "NGUYEENX", "NGUYễN", "NGUYỄN"}, {PASDRONGEL_TELEX, "Nguyeenx", "Nguyễn", "Nguyễn"},
+        {PASDRONGEL_TELEX, "aan", "ân", "ân"}, {PASDRONGEL_TELEX, "Âs", "Âs", "Âs"}, {PASDRONGEL_TELEX, "âS", "ấ", "ấ"},
+        {PASDRONGEL_TELEX, "Ấđ", "Ấđ", "Ấđ"}, {PASDRONGEL_TELEX, "Ab.Bs", "Ab.B", "Ab.B"}, {PASDRONGEL_TELEX, "S1", "S1", "S1"},
+        {PASDRONGEL_VNI, "PHA6N", "PHâN", "PHÂN"}, {PASDRONGEL_VNI, "PHA6N2", "PHầN", "PHẦN"}, {PASDRONGEL_VNI, "A61", "ấ", "Ấ"},
+        {PASDRONGEL_VNI, "D9", "đ", "Đ"}, {PASDRONGEL_VNI, "A8", "ă", "Ă"}, {PASDRONGEL_VNI, "d9U7o7ng2", "đường", "đƯờng"},
+        {PASDRONGEL_VNI, "uO7", "ươ", "ưƠ"}, {PASDRONGEL_VNI, "Uo7", "ươ", "Ươ"}, {PASDRONGEL_VNI, "UO7", "ươ", "ƯƠ"},
+        {PASDRONGEL_VNI, "PHA6N 2", "PHâN ", "PHÂN "}, {PASDRONGEL_VNI, "DD", "DD", "DD"},
+    };
+    size_t i;
+    for (i = 0; i < sizeof examples / sizeof *examples; i++) {
+        FACT(types_with(PASDRONGEL_CAPITALS_OFF, examples[i].method, examples[i].keys, examples[i].off));
+        if (!wrote(examples[i].off))
+            printf("    that is: off, %s gives %s\n", examples[i].keys, examples[i].off);
+        FACT(types(examples[i].method, examples[i].keys, examples[i].off)); /* off at first */
+        FACT(types_with(PASDRONGEL_CAPITALS_ON, examples[i].method, examples[i].keys, examples[i].on));
+        if (!wrote(examples[i].on))
+            printf("    that is: on, %s gives %s\n", examples[i].keys, examples[i].on);
+        /* off again the same cells show what the keys give off */
+        FACT(turns(PASDRONGEL_CAPITALS_OFF) && shows(examples[i].off));
+    }
+}
+
+static void capitals_facts(void)
+{
+    static const uint32_t neither[] = {2, 0xff, 0x100, 0x101, 0x80000001, 0xffffffff};
+    uint32_t on;
+    size_t i;
+    /* a new composition has it off, whatever stood there */
+    fresh(PASDRONGEL_TELEX);
+    FACT(capitals_are(PASDRONGEL_CAPITALS_OFF));
+    FACT(turns(PASDRONGEL_CAPITALS_ON) && start(PASDRONGEL_VNI) == PASDRONGEL_DONE && capitals_are(PASDRONGEL_CAPITALS_OFF));
+    memset(state, 1, sizeof state);
+    FACT(start(PASDRONGEL_TELEX) == PASDRONGEL_DONE && capitals_are(PASDRONGEL_CAPITALS_OFF));
+
+    capital_examples();
+
+    /* it refuses by 10 alone: an unsound composition, which `unsound` asks, or a number that is neither */
+    for (on = 0; on < 2; on++) {
+        FACT(types_with(on, PASDRONGEL_TELEX, "AAN", on ? "ÂN" : "âN"));
+        for (i = 0; i < sizeof neither / sizeof *neither; i++)
+            FACT(set_capitals(neither[i]) == PASDRONGEL_REFUSED_UNSOUND && capitals_are(on));
+        unsound_at(3, 2);
+        unsound_at(4, 1);
+        state_size = STATE + 1;
+        unsound();
+        state_size = STATE - 1;
+        unsound();
+        state_size = STATE;
+    }
+
+    /* it may be turned between keys, and to what it is; the text has it at once */
+    FACT(types(PASDRONGEL_TELEX, "AA", "â"));
+    FACT(turns(PASDRONGEL_CAPITALS_ON) && shows("Â") && turns(PASDRONGEL_CAPITALS_ON) && shows("Â"));
+    type("N");
+    FACT(wrote("ÂN") && turns(PASDRONGEL_CAPITALS_OFF) && shows("âN") && turns(PASDRONGEL_CAPITALS_OFF) && shows("âN"));
+    type("S");
+    FACT(wrote("ấN") && turns(PASDRONGEL_CAPITALS_ON) && shows("ẤN"));
+    FACT(remove_last(PASDRONGEL_TEXT_ROOM) == PASDRONGEL_DONE && wrote("Ấ"));
+    FACT(turns(PASDRONGEL_CAPITALS_OFF) && text(0) == PASDRONGEL_REFUSED_SHORT && text(1) == PASDRONGEL_DONE && wrote("ấ"));
+    /* of the horned pair the key decides what becomes of the o, and no turn after it */
+    FACT(types_with(PASDRONGEL_CAPITALS_OFF, PASDRONGEL_TELEX, "UO", "UO") && turns(PASDRONGEL_CAPITALS_ON));
+    type("w");
+    FACT(wrote("ƯƠ") && cell(0)[7] == 1 && cell(1)[7] == 1 && turns(PASDRONGEL_CAPITALS_OFF) && shows("ươ") && cell(1)[7] == 1);
+    FACT(types_with(PASDRONGEL_CAPITALS_ON, PASDRONGEL_TELEX, "UO", "UO") && turns(PASDRONGEL_CAPITALS_OFF));
+    type("w");
+    FACT(wrote("ươ") && cell(0)[7] == 1 && cell(1)[7] == 0 && turns(PASDRONGEL_CAPITALS_ON) && shows("Ươ") && cell(1)[7] == 0);
+
+    /* every other call keeps it */
+    for (on = 0; on < 2; on++) {
+        FACT(types_with(on, PASDRONGEL_TELEX, "DDaf", on ? "Đà" : "đà"));
+        FACT(key(FOREIGN, 0) == PASDRONGEL_REFUSED_FOREIGN && capitals_are(on));
+        FACT(check_composition() == PASDRONGEL_DONE && capitals_are(on));
+        FACT(literal(letter_of("Ấ")) == PASDRONGEL_DONE && capitals_are(on) && shows(on ? "ĐàẤ" : "đàẤ"));
+        FACT(remove_last(PASDRONGEL_TEXT_ROOM) == PASDRONGEL_DONE && wrote(on ? "Đà" : "đà") && capitals_are(on));
+        FACT(undo('f', "DDaf") == PASDRONGEL_DONE && capitals_are(on) && shows(on ? "Đa" : "đa"));
+        FACT(undo('x', "DDaf") == PASDRONGEL_REFUSED_NO_UNDO && capitals_are(on));
+        FACT(reset() == PASDRONGEL_DONE && capitals_are(on) && shows(""));
+        FACT(remove_last(0) == PASDRONGEL_REFUSED_EMPTY && capitals_are(on));
+        FACT(set_method(PASDRONGEL_VNI) == PASDRONGEL_DONE && has(PASDRONGEL_VNI, PASDRONGEL_VIETNAMESE, 0) && capitals_are(on));
+        FACT(set_mode(PASDRONGEL_ENGLISH) == PASDRONGEL_DONE && has(PASDRONGEL_VNI, PASDRONGEL_ENGLISH, 0) && capitals_are(on));
+        /* English: the key passes through as it is, and a literal shows what it is */
+        FACT(key('a', 1) == PASDRONGEL_DONE && wrote("a") && key('A', 1) == PASDRONGEL_DONE && wrote("A") && capitals_are(on));
+        FACT(key(letter_of("ấ"), 9) == PASDRONGEL_DONE && wrote("ấ") && state[2] == 0);
+        FACT(literal('D') == PASDRONGEL_DONE && literal(letter_of("ấ")) == PASDRONGEL_DONE && shows("Dấ") && capitals_are(on));
+        FACT(set_mode(PASDRONGEL_VIETNAMESE) == PASDRONGEL_DONE && has(PASDRONGEL_VNI, PASDRONGEL_VIETNAMESE, 2));
+        type("9");
+        FACT(wrote(on ? "Đấ" : "đấ") && capitals_are(on));
+        FACT(set_method(PASDRONGEL_TELEX) == PASDRONGEL_DONE && capitals_are(on) && start(PASDRONGEL_TELEX) == PASDRONGEL_DONE);
+        FACT(capitals_are(PASDRONGEL_CAPITALS_OFF));
+    }
+
+    /* undo gives the rule's first letter back, a capital where it was one, under both */
+    for (on = 0; on < 2; on++) {
+        FACT(types_with(on, PASDRONGEL_TELEX, "DD", on ? "Đ" : "đ") && undo('D', "DD") == PASDRONGEL_DONE);
+        FACT(number == PASDRONGEL_CONSUME && shows("D"));
+        FACT(types_with(on, PASDRONGEL_TELEX, "dD", "đ") && undo('D', "dD") == PASDRONGEL_DONE && shows("d"));
+        FACT(types_with(on, PASDRONGEL_TELEX, "AAN", on ? "ÂN" : "âN") && undo('a', "AAN") == PASDRONGEL_DONE);
+        FACT(number == PASDRONGEL_APPEND && shows("AN"));
+        FACT(types_with(on, PASDRONGEL_TELEX, "As", on ? "Á" : "á") && undo('s', "As") == PASDRONGEL_DONE && shows("A"));
+        FACT(types_with(on, PASDRONGEL_TELEX, "AAS", on ? "Ấ" : "ấ") && undo('s', "AAS") == PASDRONGEL_DONE);
+        FACT(shows(on ? "Â" : "â"));
+        FACT(types_with(on, PASDRONGEL_TELEX, "UOW", on ? "ƯƠ" : "ươ") && undo('w', "UOW") == PASDRONGEL_DONE);
+        FACT(shows(on ? "ƯO" : "ưo"));
+    }
+
+    /* cells that no key makes: a flag on a small letter is shown, no flag on a capital changes nothing */
+    fresh(PASDRONGEL_TELEX);
+    state[2] = 4;
+    cell(0)[0] = 0xe2, cell(0)[7] = 1, cell(1)[0] = 'b', cell(1)[7] = 1, cell(2)[0] = 'B', cell(3)[0] = 0xc2;
+    FACT(shows("âBBÂ") && turns(PASDRONGEL_CAPITALS_ON) && shows("ÂBBÂ"));
+    cell(0)[7] = 0, cell(1)[7] = 0;
+    FACT(shows("âbBÂ"));
 }
 
 static void undo_facts(void)
@@ -899,6 +1070,7 @@ static void null_facts(void)
     FACT(TRIED(pasdrongel_check_composition(NULL, 0), NOTHING) == PASDRONGEL_REFUSED_UNSOUND);
     FACT(TRIED(pasdrongel_method(NULL, 0, told_yes()), NOTHING) == PASDRONGEL_REFUSED_UNSOUND);
     FACT(TRIED(pasdrongel_mode(NULL, 0, told_yes()), NOTHING) == PASDRONGEL_REFUSED_UNSOUND);
+    FACT(TRIED(pasdrongel_capitals(NULL, 0, told_yes()), NOTHING) == PASDRONGEL_REFUSED_UNSOUND);
     FACT(TRIED(pasdrongel_count(NULL, 0, counted()), NOTHING) == PASDRONGEL_REFUSED_UNSOUND);
     FACT(TRIED(pasdrongel_key(NULL, 0, 'a', room_for(9), 9, counted()), NOTHING) == PASDRONGEL_REFUSED_UNSOUND);
     FACT(TRIED(pasdrongel_key(given(), STATE, 'b', NULL, 0, counted()), NOTHING) == PASDRONGEL_REFUSED_SHORT);
@@ -910,6 +1082,7 @@ static void null_facts(void)
     FACT(TRIED(pasdrongel_reset(NULL, 0), NOTHING) == PASDRONGEL_REFUSED_UNSOUND);
     FACT(TRIED(pasdrongel_set_method(NULL, 0, PASDRONGEL_VNI), NOTHING) == PASDRONGEL_REFUSED_UNSOUND);
     FACT(TRIED(pasdrongel_set_mode(NULL, 0, PASDRONGEL_ENGLISH), NOTHING) == PASDRONGEL_REFUSED_UNSOUND);
+    FACT(TRIED(pasdrongel_set_capitals(NULL, 0, PASDRONGEL_CAPITALS_ON), NOTHING) == PASDRONGEL_REFUSED_UNSOUND);
     FACT(TRIED(pasdrongel_remove_last(NULL, 0, NULL, 0, counted()), NOTHING) == PASDRONGEL_REFUSED_UNSOUND);
     FACT(TRIED(pasdrongel_remove_last(given(), STATE, NULL, 0, counted()), THE_STATE | A_COUNT) == PASDRONGEL_DONE && count == 0);
     FACT(TRIED(pasdrongel_text(given(), STATE, NULL, 0, counted()), A_COUNT) == PASDRONGEL_DONE && count == 0);
@@ -962,6 +1135,7 @@ int main(void)
     example_facts();
     key_facts();
     change_facts();
+    capitals_facts();
     undo_facts();
     method_facts();
     speller_facts();

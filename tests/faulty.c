@@ -3,6 +3,7 @@
 #include "pasdrongel.h"
 
 #include <stdlib.h>
+#include <string.h>
 
 #define STATE PASDRONGEL_COMPOSITION_BYTES
 #define HEAD 8 /* where the cells begin */
@@ -19,6 +20,12 @@ WRAP_SIZE(composition_bytes, void);
 WRAP(method, const uint8_t *state, size_t size, uint32_t *method);
 WRAP(mode, const uint8_t *state, size_t size, uint32_t *mode);
 WRAP(count, const uint8_t *state, size_t size, size_t *count);
+WRAP(capitals, const uint8_t *state, size_t size, uint32_t *on);
+WRAP(set_capitals, uint8_t *state, size_t size, uint32_t on);
+WRAP(new, uint8_t *state, size_t size, uint32_t method);
+WRAP(reset, uint8_t *state, size_t size);
+WRAP(set_method, uint8_t *state, size_t size, uint32_t method);
+WRAP(undo, uint8_t *state, size_t size, uint32_t trigger, const uint32_t *raw, size_t length, uint32_t *behaviour);
 WRAP(is_separator, uint32_t letter, uint32_t *yes);
 WRAP(read_utf8, const uint8_t *bytes, size_t length, uint32_t *letters, size_t room, size_t *count);
 
@@ -30,9 +37,44 @@ static int fault(int n)
     return asked == n;
 }
 
+/* A text that was written while capitals are on. */
+static void spoil(uint32_t refusal, const uint8_t *state, uint32_t *out, const size_t *count)
+{
+    size_t i;
+    if (refusal != PASDRONGEL_DONE || state[3] != PASDRONGEL_CAPITALS_ON)
+        return;
+    for (i = 0; i < *count; i++) {
+        if (fault(26) && out[i] > 0x7f)
+            pasdrongel_lower(out[i], &out[i]); /* an accented letter is small, as it is off */
+        if (fault(27))
+            pasdrongel_upper(out[i], &out[i]); /* every letter is a capital, flagged or not */
+    }
+}
+
+/* The flags are those that the key leaves with the other setting of capitals. They differ in the o of a horned pair, which is
+ * then shown small. */
+static void exchange_flags(uint8_t *state, const uint8_t *before, uint32_t key, uint32_t *out)
+{
+    uint8_t other[STATE];
+    uint32_t text[PASDRONGEL_TEXT_ROOM];
+    size_t i, count;
+    memcpy(other, before, STATE);
+    other[3] ^= 1;
+    __real_pasdrongel_key(other, STATE, key, text, PASDRONGEL_TEXT_ROOM, &count);
+    for (i = 0; i < other[2]; i++)
+        if (state[HEAD + 8 * i + 7] != other[HEAD + 8 * i + 7]) {
+            state[HEAD + 8 * i + 7] ^= 1;
+            out[i] = 0x1a1;
+        }
+}
+
 uint32_t __wrap_pasdrongel_key(uint8_t *state, size_t size, uint32_t key, uint32_t *out, size_t room, size_t *count)
 {
-    uint32_t refusal = __real_pasdrongel_key(state, size, key, out, room, count);
+    uint8_t before[STATE] = {0};
+    uint32_t refusal;
+    if (size == STATE)
+        memcpy(before, state, STATE);
+    refusal = __real_pasdrongel_key(state, size, key, out, room, count);
     if (fault(1) && refusal == PASDRONGEL_DONE && *count < room)
         out[*count] = 0;    /* the answer is ended by a 0 */
     if (fault(2) && refusal == PASDRONGEL_DONE)
@@ -41,6 +83,11 @@ uint32_t __wrap_pasdrongel_key(uint8_t *state, size_t size, uint32_t key, uint32
         out[-1] = 0;        /* a letter before it */
     if (fault(4) && refusal == PASDRONGEL_REFUSED_SHORT && room > 0)
         out[0] = 'a';       /* a refusal that has begun to write */
+    if (fault(28) && refusal == PASDRONGEL_DONE && state[3] == PASDRONGEL_CAPITALS_ON)
+        exchange_flags(state, before, key, out); /* the horn takes the o's flag, as it does off */
+    if (fault(29) && refusal == PASDRONGEL_DONE && state[3] == PASDRONGEL_CAPITALS_OFF)
+        exchange_flags(state, before, key, out); /* the horn leaves the o's flag, as it does on */
+    spoil(refusal, state, out, count);
     return refusal;
 }
 
@@ -61,18 +108,22 @@ uint32_t __wrap_pasdrongel_remove_last(uint8_t *state, size_t size, uint32_t *ou
         state[HEAD + 8 * state[2]] = 'a'; /* the cell is not blank: unsound */
     if (fault(8) && refusal == PASDRONGEL_DONE && *count > 0)
         out[0] = 'a';       /* not the text of what is left */
+    spoil(refusal, state, out, count);
     return refusal;
 }
 
 uint32_t __wrap_pasdrongel_text(const uint8_t *state, size_t size, uint32_t *out, size_t room, size_t *count)
 {
+    uint32_t refusal;
     if (fault(9) && room > 0 && out[0] % 2 == 0)
         return PASDRONGEL_REFUSED_SHORT; /* goes by what stood in the output */
     if (fault(10) && room == 0)
         return PASDRONGEL_REFUSED_SHORT; /* there may be nothing to write */
     if (fault(11) && out == NULL)
         return PASDRONGEL_REFUSED_SHORT; /* asks where an empty output stands */
-    return __real_pasdrongel_text(state, size, out, room, count);
+    refusal = __real_pasdrongel_text(state, size, out, room, count);
+    spoil(refusal, state, out, count);
+    return refusal;
 }
 
 uint32_t __wrap_pasdrongel_check_composition(const uint8_t *state, size_t size)
@@ -83,6 +134,8 @@ uint32_t __wrap_pasdrongel_check_composition(const uint8_t *state, size_t size)
         return PASDRONGEL_DONE;
     if (fault(14) && size == STATE && state[HEAD - 1] != 0)
         return PASDRONGEL_DONE; /* a reserved byte says something */
+    if (fault(30) && size == STATE && state[3] == 2)
+        return PASDRONGEL_DONE; /* capitals are neither on nor off */
     return __real_pasdrongel_check_composition(state, size);
 }
 
@@ -126,6 +179,73 @@ uint32_t __wrap_pasdrongel_count(const uint8_t *state, size_t size, size_t *coun
         *count = PASDRONGEL_CELLS - 1; /* the last cell is not counted */
     if (fault(22) && refusal == PASDRONGEL_DONE)
         *count |= before & ~(size_t)UINT32_MAX; /* the low half of the number is written */
+    return refusal;
+}
+
+uint32_t __wrap_pasdrongel_capitals(const uint8_t *state, size_t size, uint32_t *on)
+{
+    uint32_t refusal = __real_pasdrongel_capitals(state, size, on);
+    if (fault(31) && refusal == PASDRONGEL_DONE)
+        *on = PASDRONGEL_CAPITALS_OFF; /* whatever it is */
+    if (fault(32) && refusal != PASDRONGEL_DONE)
+        *on = PASDRONGEL_CAPITALS_OFF; /* a refusal that answers */
+    if (fault(33) && size == STATE && state[3] <= 1) {
+        *on = state[3]; /* the rest is not tested */
+        return PASDRONGEL_DONE;
+    }
+    return refusal;
+}
+
+uint32_t __wrap_pasdrongel_set_capitals(uint8_t *state, size_t size, uint32_t on)
+{
+    uint32_t refusal = __real_pasdrongel_set_capitals(state, size, fault(34) && on == 2 ? 1 : on); /* 2 is on */
+    if (fault(35) && refusal == PASDRONGEL_DONE)
+        memset(state + HEAD, 0, STATE - HEAD), state[2] = 0; /* it empties the cells, as setting the method does */
+    if (fault(36) && refusal != PASDRONGEL_DONE && size == STATE && on > 1)
+        state[3] = (uint8_t)on; /* a refusal that sets the byte */
+    if (fault(37) && refusal == PASDRONGEL_DONE && state[2] > 0)
+        state[HEAD + 7] = 0; /* the first cell loses its flag */
+    return refusal;
+}
+
+uint32_t __wrap_pasdrongel_new(uint8_t *state, size_t size, uint32_t method)
+{
+    uint8_t before = size == STATE ? state[3] : 0;
+    uint32_t refusal = __real_pasdrongel_new(state, size, method);
+    if (fault(38) && refusal == PASDRONGEL_DONE && before == PASDRONGEL_CAPITALS_ON)
+        state[3] = before; /* capitals are as they were */
+    return refusal;
+}
+
+/* Capitals are off after the call. */
+static void turn_off(uint32_t refusal, uint8_t *state)
+{
+    if (refusal == PASDRONGEL_DONE)
+        state[3] = PASDRONGEL_CAPITALS_OFF;
+}
+
+uint32_t __wrap_pasdrongel_reset(uint8_t *state, size_t size)
+{
+    uint32_t refusal = __real_pasdrongel_reset(state, size);
+    if (fault(39))
+        turn_off(refusal, state);
+    return refusal;
+}
+
+uint32_t __wrap_pasdrongel_set_method(uint8_t *state, size_t size, uint32_t method)
+{
+    uint32_t refusal = __real_pasdrongel_set_method(state, size, method);
+    if (fault(40))
+        turn_off(refusal, state);
+    return refusal;
+}
+
+uint32_t __wrap_pasdrongel_undo(
+    uint8_t *state, size_t size, uint32_t trigger, const uint32_t *raw, size_t length, uint32_t *behaviour)
+{
+    uint32_t refusal = __real_pasdrongel_undo(state, size, trigger, raw, length, behaviour);
+    if (fault(41))
+        turn_off(refusal, state);
     return refusal;
 }
 

@@ -6,8 +6,10 @@
  * - It returns 0 or one of its own refusals, and by 10 exactly where the bytes are no sound composition.
  * - Nothing outside of what it is lent is read or written (lent.h), and nothing that is lent to be read is written.
  * - After a refusal nothing has changed. After an answer: the answer alone, at the start of the output.
- * - What was a sound composition is one after the call, by a test of the bytes that is written here. The method, the mode and
- *   the count are those bytes, and a separator is one of twelve letters.
+ * - What was a sound composition is one after the call, by a test of the bytes that is written here. The method, the mode,
+ *   the setting of capitals and the count are those bytes, and a separator is one of twelve letters.
+ * - Capitals are off in a new composition; the call that sets them changes nothing else, and no other call changes them. With
+ *   the other setting every call does the same, but for the capitals that it shows and a flag that it takes (hold_capitals).
  * - The same call on other memory, with other content in its outputs, does the same.
  * - It makes no difference whether an empty buffer is NULL.
  * - A refusal by 3 is one for want of room: with enough of it the answer is longer than the room was. And an answer with
@@ -99,6 +101,7 @@ CALL(new, WITH_STATE, g->a)
 CALL(check_composition, WITH_STATE)
 CALL(method, WITH_STATE, p->first)
 CALL(mode, WITH_STATE, p->first)
+CALL(capitals, WITH_STATE, p->first)
 CALL(count, WITH_STATE, p->first)
 CALL(key, WITH_STATE, g->a, WITH_OUTPUT)
 CALL(literal, WITH_STATE, g->a)
@@ -107,6 +110,7 @@ CALL(remove_last, WITH_STATE, WITH_OUTPUT)
 CALL(reset, WITH_STATE)
 CALL(set_method, WITH_STATE, g->a)
 CALL(set_mode, WITH_STATE, g->a)
+CALL(set_capitals, WITH_STATE, g->a)
 CALL(undo, WITH_STATE, g->a, WITH_INPUT, p->first)
 CALL(is_tone_key, g->a, g->b, p->first)
 CALL(is_horn_key, g->a, g->b, p->first)
@@ -158,6 +162,7 @@ static const struct kind {
     {"check_composition", call_check_composition, R(10), READ, NO_NUMBER, 0, 0, 0, 0, 12},
     {"method", call_method, R(10), READ, NO_NUMBER, 0, 0, 4, 0, 4},
     {"mode", call_mode, R(10), READ, NO_NUMBER, 0, 0, 4, 0, 4},
+    {"capitals", call_capitals, R(10), READ, NO_NUMBER, 0, 0, 4, 0, 4},
     {"count", call_count, R(10), READ, NO_NUMBER, 0, 0, sizeof(size_t), 0, 4},
     {"key", call_key, R(10) | R(1) | R(2) | R(3), CHANGED, KEY, 0, 4, sizeof(size_t), 0, 120},
     {"literal", call_literal, R(10) | R(1) | R(2), CHANGED, KEY, 0, 0, 0, 0, 12},
@@ -166,6 +171,7 @@ static const struct kind {
     {"reset", call_reset, R(10), CHANGED, NO_NUMBER, 0, 0, 0, 0, 1},
     {"set_method", call_set_method, R(10), CHANGED, SETTING, 0, 0, 0, 0, 1},
     {"set_mode", call_set_mode, R(10), CHANGED, SETTING, 0, 0, 0, 0, 1},
+    {"set_capitals", call_set_capitals, R(10), CHANGED, SETTING, 0, 0, 0, 0, 8},
     {"undo", call_undo, R(10) | R(6) | R(1) | R(5), CHANGED, KEY, 4, 0, 4, 0, 16},
     {"is_tone_key", call_is_tone_key, R(10) | R(1), NO_STATE, SETTING, 0, 0, 4, 0, 1},
     {"is_horn_key", call_is_horn_key, R(10) | R(1), NO_STATE, SETTING, 0, 0, 4, 0, 1},
@@ -214,7 +220,7 @@ static int is_sound(const uint8_t *state, size_t size)
 {
     static const uint8_t blank[8];
     size_t i;
-    if (size != STATE || state[0] > 1 || state[1] > 1 || state[2] > 32 || memcmp(state + 3, blank, HEAD - 3) != 0)
+    if (size != STATE || state[0] > 1 || state[1] > 1 || state[2] > 32 || state[3] > 1 || memcmp(state + 4, blank, HEAD - 4) != 0)
         return 0;
     for (i = 0; i < 32; i++)
         if (i < state[2] ? !is_cell(state + HEAD + 8 * i) : memcmp(state + HEAD + 8 * i, blank, 8) != 0)
@@ -377,11 +383,24 @@ static void hold_number(const struct kind *kind, const struct given *g, const st
     if (left->refusal != PASDRONGEL_DONE)
         return;
     if ((kind->call == call_method && number != g->state[0]) || (kind->call == call_mode && number != g->state[1])
-        || (kind->call == call_count && cells != g->state[2]))
+        || (kind->call == call_count && cells != g->state[2]) || (kind->call == call_capitals && number != g->state[3]))
         fault(kind, "it gives another number than the bytes have");
     if (kind->call == call_is_separator
         && number != (g->a < 0x80 && memchr(separators, (int)g->a, sizeof separators - 1) != NULL))
         fault(kind, "it takes another letter for a separator");
+}
+
+/* A new composition has capitals off, one call sets them and changes nothing else, and every other keeps them. */
+static void hold_setting(const struct kind *kind, const struct given *g, const struct left *left)
+{
+    int sets = kind->call == call_set_capitals;
+    uint32_t expected = kind->use == MADE ? PASDRONGEL_CAPITALS_OFF : sets ? g->a : g->state[3];
+    if (left->refusal != PASDRONGEL_DONE || kind->use < CHANGED)
+        return;
+    if (left->state[3] != expected)
+        fault(kind, "it leaves another setting of capitals");
+    if (sets && (memcmp(left->state, g->state, 3) != 0 || memcmp(left->state + 4, g->state + 4, STATE - 4) != 0))
+        fault(kind, "it changes more than the setting of capitals");
 }
 
 static int same(const struct kind *kind, const struct given *g, const struct left *one, const struct left *other)
@@ -413,6 +432,59 @@ static void hold_room(const struct kind *kind, const struct given *g, const stru
         fault(kind, "it refuses an answer that has room");
 }
 
+static uint32_t letter_at(const struct left *left, size_t i)
+{
+    uint32_t letter;
+    memcpy(&letter, left->output + 4 * i, sizeof letter);
+    return letter;
+}
+
+static uint32_t capital_of(uint32_t letter)
+{
+    uint32_t capital = 0;
+    calls++;
+    return PASDRONGEL_REFUSAL(pasdrongel_upper(letter, &capital)) == PASDRONGEL_DONE ? capital : 0;
+}
+
+/* The same call with the other setting of capitals. It answers the same, and leaves the same bytes but for that one and for
+ * flags. On, no cell that stays loses or gets its flag; off, the second of two cells whose bases a key changes, a horned pair,
+ * has none. A letter of a flagged cell is, on, the capital of what it is off, and every other is the same; so is the letter of
+ * a key in English mode. */
+static void hold_capitals(const struct kind *kind, const struct given *g, const struct left *left)
+{
+    static struct given other;
+    static struct left again;
+    const struct left *on = g->state[3] == 1 ? left : &again, *off = g->state[3] == 1 ? &again : left;
+    int passes = kind->call == call_key && g->state[1] == PASDRONGEL_ENGLISH;
+    size_t i;
+    if (kind->use == NO_STATE || kind->use == MADE || kind->call == call_capitals || kind->call == call_set_capitals
+        || !is_sound(g->state, g->state_size))
+        return;
+    other = *g;
+    other.state[3] ^= 1;
+    make_call(kind, &other, HIGH, 0xc3, &again);
+    hold_memory(kind, &again);
+    if (on->refusal != off->refusal || on->count != off->count || memcmp(on->first, off->first, sizeof on->first) != 0
+        || memcmp(on->state, off->state, 3) != 0 || on->state[3] != 1 || off->state[3] != 0) {
+        fault(kind, "it answers by the setting of capitals");
+        return;
+    }
+    for (i = 0; i < PASDRONGEL_CELLS; i++) {
+        const uint8_t *a = on->state + HEAD + 8 * i, *b = off->state + HEAD + 8 * i, *before = g->state + HEAD + 8 * i;
+        int stays = i < g->state[2] && i < on->state[2];
+        int pair = kind->call == call_key && stays && i > 0 && memcmp(b, before, 4) != 0 && memcmp(b - 8, before - 8, 4) != 0;
+        if (memcmp(a, b, 7) != 0 || b[7] != (pair ? 0 : a[7]))
+            fault(kind, "it leaves other cells by the setting of capitals");
+        if (stays && a[7] != before[7])
+            fault(kind, "it takes or gives a flag while capitals are on");
+    }
+    for (i = 0; kind->output == 4 && i < on->count; i++) {
+        int flagged = !passes && on->state[HEAD + 8 * i + 7] == 1;
+        if (letter_at(on, i) != (flagged ? capital_of(letter_at(off, i)) : letter_at(off, i)))
+            fault(kind, "it shows with capitals on what is not the capital of a flagged cell, or no longer the same letter");
+    }
+}
+
 /* Makes the call twice and holds it to all that is asked; what it leaves is in `left`. */
 static void hold(const struct kind *kind, const struct given *g, struct left *left)
 {
@@ -421,12 +493,15 @@ static void hold(const struct kind *kind, const struct given *g, struct left *le
     hold_memory(kind, left);
     hold_answer(kind, g, left);
     hold_number(kind, g, left);
+    hold_setting(kind, g, left);
     make_call(kind, g, LOW, 0x5a, &again);
     hold_memory(kind, &again);
     if (!same(kind, g, left, &again))
         fault(kind, "the same call does something else on other memory");
     if (kind->output != 0 && one_in(8))
         hold_room(kind, g, left);
+    if (one_in(2))
+        hold_capitals(kind, g, left);
 }
 
 /* ---- what the calls are given */
@@ -455,6 +530,16 @@ static uint32_t a_key(void)
 {
     static const char keys[] = "aaaaeeeoooouuuuiyywwwwddddssfrxjbcghklmnpqtvgq123456789 .,!?;:\tAEOUDWSQ";
     return one_in(200) ? any_number() : one_in(12) ? any_letter() : (uint32_t)keys[below(sizeof keys - 1)];
+}
+
+/* Keys one after the other: now and then those of a horned pair, of either case, which single keys seldom make. */
+static uint32_t next_key(void)
+{
+    static const char *const pairs[] = {"uow", "uOw", "Uow", "UOW", "uO7", "UO7"};
+    static const char *left = "";
+    if (*left == '\0' && one_in(20))
+        left = pairs[below(sizeof pairs / sizeof *pairs)];
+    return *left != '\0' ? (uint32_t)*left++ : a_key();
 }
 
 static size_t some_room(void)
@@ -536,10 +621,12 @@ static void some_state(struct given *g, uint32_t rarity)
     else if (one_in(3 * rarity))
         g->state_size = one_in(2) ? STATE - 1 + 2 * below(2) : below(MOST_STATE + 1);
     if (one_in(rarity)) {
-        place = one_in(3) ? below(one_in(4) ? HEAD : 3) : below(one_in(4) ? STATE : in_use);
+        place = one_in(3) ? below(one_in(4) ? HEAD : 4) : below(one_in(4) ? STATE : in_use);
         g->state[place] = one_in(2) ? edges[below(sizeof edges)] : (uint8_t)below(256);
         if (place == 2 && one_in(2))
             g->state[place] = (uint8_t)(31 + below(3)); /* the count, at its own edge */
+        if (place == 3 && one_in(2))
+            g->state[place] = (uint8_t)(1 + below(2)); /* and capitals */
     }
 }
 
@@ -578,7 +665,7 @@ static void prepare(const struct kind *kind, struct given *g)
         g->a = one_in(4) ? any_number() : one_in(2) ? any_letter() : a_key();
         break;
     case KEY:
-        g->a = a_key();
+        g->a = next_key();
         break;
     case SETTING:
         g->a = one_in(3) ? any_number() : below(3);

@@ -373,7 +373,8 @@ static void write_cell(uint8_t *bytes, char *word)
     }
 }
 
-/* The bytes of a composition, `telex vietnamese a b,s`, up to the word `stop` (NULL: to the end of the line). */
+/* The bytes of a composition, `telex vietnamese a b,s`, with capitals on `telex vietnamese capitals a b,s`, up to the word
+ * `stop` (NULL: to the end of the line). */
 static void read_composition(uint8_t *bytes, const char *stop)
 {
     char *word, *star;
@@ -384,6 +385,10 @@ static void read_composition(uint8_t *bytes, const char *stop)
         unsigned long times = 1;
         if (strcmp(word, "nothing") == 0)
             continue;
+        if (strcmp(word, "capitals") == 0) {
+            bytes[3] = 1;
+            continue;
+        }
         if ((star = strchr(word, '*')) != NULL) {
             times = strtoul(star + 1, NULL, 10);
             *star = '\0';
@@ -458,6 +463,8 @@ static uint32_t session_call(const char *name)
         return pasdrongel_set_method(state, length, (uint32_t)read_number());
     if (strcmp(name, "set_mode") == 0)
         return pasdrongel_set_mode(state, length, (uint32_t)read_number());
+    if (strcmp(name, "set_capitals") == 0)
+        return pasdrongel_set_capitals(state, length, (uint32_t)read_number());
     if (strcmp(name, "undo") == 0)
         return undo();
     if (strcmp(name, "check_composition") == 0)
@@ -466,6 +473,8 @@ static uint32_t session_call(const char *name)
         return pasdrongel_method(state, length, &session.number);
     if (strcmp(name, "mode") == 0)
         return pasdrongel_mode(state, length, &session.number);
+    if (strcmp(name, "capitals") == 0)
+        return pasdrongel_capitals(state, length, &session.number);
     if (strcmp(name, "count") == 0)
         return pasdrongel_count(state, length, &session.cells);
     bad_line("this call is not known");

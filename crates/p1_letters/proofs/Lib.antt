@@ -1,5 +1,6 @@
 pub mod Blocks
 pub mod Alphabet
+pub mod Case
 pub mod Words
 pub mod Tones
 pub mod Vowels

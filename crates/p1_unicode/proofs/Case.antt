@@ -1,4 +1,4 @@
--- Lower and upper case are Unicode's on the whole alphabet, and stay in it: each is one test that antt computes.
+-- Lower and upper case are Unicode's on the whole alphabet: each is one test that antt computes.
 use Prim.Native.Nat.{ℕ}
 use mathlib.Core.Path.{_≡_, refl}
 use mathlib.Core.Bool.{true, not}
@@ -11,18 +11,11 @@ use Rattle.p0_choice.proofs.Tables.{same-true}
 use Rattle.p1_letters.specs.Alphabet.{smallBy32, smallBy1, smallHigh, smallNext, isSmall, isAsciiCapital, isCapital, inAlphabet, asciiUpper}
 use Rattle.p1_letters.specs.Alphabet.{lower, upper}
 use Rattle.p1_letters.proofs.Alphabet.{every-letter}
+use Rattle.p1_letters.proofs.Case.{lower-stays}
 use Rattle.p1_unicode.specs.Ucd.{casePairs}
 use Rattle.p1_unicode.specs.Case.{smallIn, capitalIn, simpleLower, simpleUpper}
 
 module _ (x : ℕ) (e : inAlphabet x ≡ true) where
-  pub lower-stays : inAlphabet (lower x) ≡ true
-  unfolding smallBy32 smallBy1 smallHigh smallNext isSmall isAsciiCapital isCapital inAlphabet lower word
-  lower-stays = every-letter (λ (y : ℕ). inAlphabet (lower y)) tt tt x e
-
-  pub upper-stays : inAlphabet (upper x) ≡ true
-  unfolding smallBy32 smallBy1 smallHigh smallNext isSmall isAsciiCapital isCapital inAlphabet asciiUpper upper word
-  upper-stays = every-letter (λ (y : ℕ). inAlphabet (upper y)) tt tt x e
-
   pub lower-unicode : lower x ≡ simpleLower x
   unfolding smallBy32 smallBy1 smallHigh smallNext isSmall isAsciiCapital isCapital inAlphabet lower word smallIn simpleLower casePairs
   lower-unicode = eqb-true (lower x) (simpleLower x) (every-letter (λ (y : ℕ). eqb (lower y) (simpleLower y)) tt tt x e)
@@ -41,7 +34,7 @@ module _ (x : ℕ) (e : inAlphabet x ≡ true) where
   capital-unicode = rw (isCapital-lower, ← lower-unicode) (there, back)
     where
       there : not (eqb (lower x) x) ≡ true → (inAlphabet (lower x) ≡ true) × (lower x ≡ x → ⊥)
-      there h = (lower-stays, eqb-false (lower x) x (not-true (eqb (lower x) x) h))
+      there h = (lower-stays x e, eqb-false (lower x) x (not-true (eqb (lower x) x) h))
 
       back : (inAlphabet (lower x) ≡ true) × (lower x ≡ x → ⊥) → not (eqb (lower x) x) ≡ true
       back h = rw (ne-eqb (lower x) x (h .1)) refl

@@ -14,7 +14,8 @@ use Rattle.p1_letters.specs.Tones.{toneRows, toneColumn, rowOf, toneFrom, toneO
 use Rattle.p1_letters.specs.Vowels.{vowels, isVowel}
 use Rattle.p1_letters.proofs.Vowels.{every-vowel}
 use Rattle.p1_letters.proofs.ToneOn.{keys}
-use Rattle.p1_unicode.specs.Ucd.{decompositions, classes}
+use Rattle.p1_unicode.specs.Ucd.{casePairs, decompositions, classes}
+use Rattle.p1_unicode.specs.Case.{capitalIn, simpleUpper}
 use Rattle.p1_unicode.specs.Canonical.{decompositionIn, decompositionOf, apart, classIn, classOf, reorderable, exchanged, run}
 use Rattle.p1_unicode.specs.Canonical.{ordered, canonical, CanonicallyEqual, toneMark}
 use Rattle.p1_unicode.proofs.Canonical.{sameList, same-list, letters-differ}
@@ -29,6 +30,10 @@ each-tone : (p : ℕ → ℕ → Bool) → ((x : ℕ) → isVowel x ≡ true →
     → p x t ≡ true
 unfolding onKeys keys word
 each-tone p f x t e k = each-among (p x) keys (rw (f x e) tt) t k
+
+-- the capital of a toned letter, against its vowel's capital with the mark
+capitalSame : ℕ → ℕ → Bool
+capitalSame y u = sameList (canonical (simpleUpper (toneOn y u) ∷ [])) (canonical (simpleUpper (asciiLower y) ∷ toneMark u ∷ []))
 
 module _ (x t : ℕ) (v : isVowel x ≡ true) (k : among t keys ≡ true) where
   pub toned-letter : inAlphabet (toneOn x t) ≡ true
@@ -45,6 +50,15 @@ module _ (x t : ℕ) (v : isVowel x ≡ true) (k : among t keys ≡ true) where
       same-list _ _
       (each-tone (λ (y u : ℕ). sameList (canonical (toneOn y u ∷ [])) (canonical (asciiLower y ∷ toneMark u ∷ [])))
       (every-vowel (onKeys (λ (y u : ℕ). sameList (canonical (toneOn y u ∷ [])) (canonical (asciiLower y ∷ toneMark u ∷ [])))) tt) x t v k)
+
+  -- its capital is canonically equal to the vowel's capital with the mark
+  pub capital-toned-unicode : CanonicallyEqual (simpleUpper (toneOn x t) ∷ []) (simpleUpper (asciiLower x) ∷ toneMark t ∷ [])
+  unfolding capitalSame onKeys keys word isAsciiCapital asciiLower toneRows toneColumn rowOf toneFrom toneOn vowels isVowel
+      decompositionIn decompositionOf apart decompositions classIn classOf classes reorderable exchanged run ordered canonical toneMark
+      sameList capitalIn simpleUpper casePairs
+  capital-toned-unicode =
+      same-list _ _
+      (each-tone capitalSame (every-vowel (onKeys capitalSame) tt) x t v k)
 
   pub off-undoes : toneOff (toneOn x t) ≡ asciiLower x
   unfolding onKeys keys word isAsciiCapital asciiLower toneRows toneColumn rowOf toneFrom toneOn vowels isVowel offIn toneOff

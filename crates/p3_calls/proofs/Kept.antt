@@ -20,7 +20,7 @@ use Rattle.p0_choice.proofs.Tests.{each-append, each-take}
 use Rattle.p3_cells.proofs.Made.{typed-cell}
 use Rattle.p3_cells.proofs.Leaving.{leaving-keeps}
 use Rattle.p3_cells.proofs.Holding.{count-fits, used-length, used-cells, composed-sound}
-use Rattle.p3_calls.specs.Settings.{created, settled, resetTo, methodSet, turned, enabledSet}
+use Rattle.p3_calls.specs.Settings.{created, settled, resetTo, methodSet, turned, enabledSet, capitalsSet}
 use Rattle.p3_calls.specs.Literal.{literalOutcome, literal}
 use Rattle.p3_calls.specs.Output.{left, removalOutcome, removed}
 
@@ -44,14 +44,22 @@ module _ (c : Composition) (s : isSound c ≡ true) where
   unfolding methodSet
   set-method-sound m = leaving-keeps Sound (answer (settled c) 0) c _ s (λ k e. empty-sound _)
 
+  -- the cells in use, under other settings
+  under-sound : (z : Settings) → isSound (composed z (used c)) ≡ true
+  under-sound z = composed-sound z (used c) (omega (arith, used-length c s, count-fits c s)) (used-cells c s)
+
   turned-sound : (on : Bool) → isSound (turned c on) ≡ true
   unfolding turned
-  turned-sound true = composed-sound _ (used c) (omega (arith, used-length c s, count-fits c s)) (used-cells c s)
+  turned-sound true = under-sound _
   turned-sound false = empty-sound _
 
   pub set-enabled-sound : (on : Bool) → isSound (enabledSet c on .comp) ≡ true
   unfolding enabledSet
   set-enabled-sound on = leaving-keeps Sound (answer (settled c) 0) c _ s (λ k e. turned-sound on)
+
+  pub set-capitals-sound : (on : Bool) → isSound (capitalsSet c on .comp) ≡ true
+  unfolding capitalsSet
+  set-capitals-sound on = leaving-keeps Sound (answer (settled c) 0) c _ s (λ k e. under-sound _)
 
   -- ---- the literal
   fits : (ch k : ℕ) → answer (literalOutcome c ch) 0 ≡ Done k → (inAlphabet ch ≡ true) × (length (used c) < limit)

@@ -15,6 +15,10 @@ set-method-only κs a = (tt, λ z z′ w w′ q q′. (alike q q′, refl))
 pub set-enabled-only : OneAnswer own.set_enabled.Kinds.ps own.set_enabled.Kinds.r own.set_enabled.Reads.Asked own.set_enabled.Reads.Learnt
 set-enabled-only κs a = (tt, λ z z′ w w′ q q′. (alike q q′, refl))
 
+pub set-capitals-only :
+    OneAnswer own.set_capitals.Kinds.ps own.set_capitals.Kinds.r own.set_capitals.Reads.Asked own.set_capitals.Reads.Learnt
+set-capitals-only κs a = (tt, λ z z′ w w′ q q′. (alike q q′, refl))
+
 pub append-literal-only :
     OneAnswer own.append_literal.Kinds.ps own.append_literal.Kinds.r own.append_literal.Reads.Asked own.append_literal.Reads.Learnt
 append-literal-only κs a = (tt, λ z z′ w w′ q q′. (alike q q′, refl))

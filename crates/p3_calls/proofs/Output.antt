@@ -4,7 +4,7 @@ use mathlib.Core.Path.{_≡_, refl, sym, _∙_}
 use mathlib.Core.Bool.{Bool, true, false, not}
 use mathlib.Core.List.{List, _++_}
 use native.Mathlib.Omega.{arith}
-use lib.ListN.{length, take, drop, length-map}
+use lib.ListN.{length, take, drop}
 use lib.Seq.{length-take-le}
 use borrow.Author.Tests.{eq-eqb, ne-eqb, not-true, not-false}
 use Rattle.p0_refusals.specs.Answers.{writes, refuses, answer, output}
@@ -14,17 +14,18 @@ use Rattle.p0_refusals.proofs.Answers.{refuses-answer, refuses-output, short-an
 use Rattle.p3_cells.specs.Cells.{limit, blank, isSound, used, holding}
 use Rattle.p3_cells.specs.Leaving.{refusing}
 use Rattle.p3_cells.specs.Mirror.{withCell, withCount}
-use Rattle.p3_cells.specs.Text.{shown, textOf}
+use Rattle.p3_cells.specs.Text.{textOf}
 use Rattle.p3_cells.specs.declared.Cell.{Cell}
 use Rattle.p3_cells.specs.declared.After.{After}
 use Rattle.p3_cells.specs.declared.Composition.{Composition}
 use Rattle.p3_cells.proofs.Holding.{count-fits, used-length, used-held, holding-less}
+use Rattle.p3_cells.proofs.Text.{text-length}
 use Rattle.p3_cells.proofs.Leaving.{leaving-refused, leaving-short, leaving-done}
 use Rattle.p3_calls.specs.Output.{textOutcome, left, removalOutcome, removed}
 
-length-text : (xs : List Cell) → length (textOf xs) ≡ length xs
-unfolding textOf
-length-text xs = length-map xs shown
+-- what the text of cells is under the settings of a composition
+abbrev textIn : Composition → List Cell → List ℕ
+textIn c xs = textOf (c .settings .capitals) xs
 
 module _ (c : Composition) (s : Bool) (e : s ≡ isSound c) where
   module _ (h : not s ≡ true) where
@@ -67,12 +68,12 @@ module _ (c : Composition) (s : Bool) (e : s ≡ isSound c) where
     count = used-length c whole
 
     -- ---- text
-    text-writes : textOutcome c ≡ writes (textOf (used c))
+    text-writes : textOutcome c ≡ writes (textIn c (used c))
     unfolding textOutcome
     text-writes = rw whole refl
 
-    room : length (textOf (used c)) ≡ c .count
-    room = length-text (used c) ∙ count
+    room : length (textIn c (used c)) ≡ c .count
+    room = text-length _ (used c) ∙ count
 
     pub text-short : (m : ℕ) → m < c .count → Refused Short ≡ answer (textOutcome c) m
     text-short m l = short-answer _ _ text-writes m (rw room l)
@@ -83,7 +84,8 @@ module _ (c : Composition) (s : Bool) (e : s ≡ isSound c) where
     pub text-done : (m r : ℕ) → c .count ≤ m → r ≡ c .count → Done r ≡ answer (textOutcome c) m
     text-done m r l q = writes-answer _ _ text-writes m r (rw room l) (rw room q)
 
-    pub text-done-out : (o out : List ℕ) → c .count ≤ length o → out ≡ textOf (used c) ++ drop (c .count) o → out ≡ output (textOutcome c) o
+    pub text-done-out : (o out : List ℕ) → c .count ≤ length o → out ≡ textIn c (used c) ++ drop (c .count) o
+        → out ≡ output (textOutcome c) o
     text-done-out o out l q = writes-output _ _ text-writes o out (rw room l) (rw room q)
 
     -- ---- removal
@@ -104,12 +106,12 @@ module _ (c : Composition) (s : Bool) (e : s ≡ isSound c) where
     left-is = rw count refl
 
     module _ (z : c .count ≡ 0 → ⊥) where
-      removal-writes : removalOutcome c ≡ writes (textOf (left c))
+      removal-writes : removalOutcome c ≡ writes (textIn c (left c))
       unfolding removalOutcome
       removal-writes = rw (whole, count, ne-eqb (c .count) 0 z) refl
 
-      less : length (textOf (left c)) ≡ c .count - 1
-      less = length-text (left c) ∙ rw left-is (length-take-le (c .count - 1) (used c) (omega (arith, count)))
+      less : length (textIn c (left c)) ≡ c .count - 1
+      less = text-length _ (left c) ∙ rw left-is (length-take-le (c .count - 1) (used c) (omega (arith, count)))
 
       pub removal-short : (m : ℕ) (k : After) → m < c .count - 1 → k ≡ refusing c Short → k ≡ removed c m
       unfolding removed
@@ -131,7 +133,7 @@ module _ (c : Composition) (s : Bool) (e : s ≡ isSound c) where
       removal-done m r x b l q = leaving-done _ c _ m _ (shorter x) r removal-writes (rw less l) (rw less q) (shorter-is x b)
 
       pub removal-done-out : (o out : List ℕ) (x : Cell) → x ≡ blank → c .count - 1 ≤ length o
-          → out ≡ textOf (used (shorter x)) ++ drop (c .count - 1) o → out ≡ output (removalOutcome c) o
+          → out ≡ textIn c (used (shorter x)) ++ drop (c .count - 1) o → out ≡ output (removalOutcome c) o
       removal-done-out o out x b l q =
           writes-output _ _ removal-writes o out (rw less l) (rw less (rw (shorter-is x b, used-held (c .settings) (left c)) at q))
 

@@ -7,11 +7,11 @@ use Rattle.p0_choice.proofs.Choices.{pick-true, pick-false}
 use Rattle.p0_refusals.specs.Answers.{writes, refuses}
 use Rattle.p0_refusals.specs.declared.Refusal.the-variants.{Unsound}
 use Rattle.p3_cells.specs.Mirror.{withSettings}
-use Rattle.p3_cells.specs.Cells.{isSound, composed}
+use Rattle.p3_cells.specs.Cells.{isSound, used, composed}
 use Rattle.p3_cells.specs.declared.Composition.{Composition}
 use Rattle.p3_cells.specs.declared.Mode.the-variants.{Vietnamese, English}
 use Rattle.p3_cells.proofs.Holding.{holding-under}
-use Rattle.p3_cells.specs.Settings.{withMode}
+use Rattle.p3_cells.specs.Settings.{withMode, withCapitals}
 use Rattle.p3_calls.specs.Settings.{settled, turned}
 
 module _ (c : Composition) (s : Bool) (e : s ≡ isSound c) where
@@ -28,6 +28,11 @@ module _ (c : Composition) (s : Bool) (e : s ≡ isSound c) where
       → withSettings c (withMode (c .settings) Vietnamese) ≡ turned c on
   unfolding turned
   turned-on on h k = pick-true on _ _ _ (not-false on k) (holding-under c (sym e ∙ not-false s h) _)
+
+  -- "Changing it leaves the cells"
+  pub capitals-kept : (on : Bool) → not s ≡ false
+      → withSettings c (withCapitals (c .settings) on) ≡ composed (withCapitals (c .settings) on) (used c)
+  capitals-kept on h = holding-under c (sym e ∙ not-false s h) _
 
 pub turned-off : (c r : Composition) (on : Bool) → not on ≡ true → r ≡ composed (withMode (c .settings) English) [] → r ≡ turned c on
 unfolding turned

@@ -16,7 +16,7 @@ use Rattle.p3_cells.specs.declared.Composition.{Composition}
 
 -- ---- text
 unfoldable pub textOutcome : Composition → Outcome
-textOutcome c = pick (isSound c) (writes (textOf (used c))) (refuses Unsound)
+textOutcome c = pick (isSound c) (writes (textOf (c .settings .capitals) (used c))) (refuses Unsound)
 
 -- ---- removal
 -- "Removing the last cell blanks it."
@@ -26,7 +26,7 @@ left c = take (length (used c) - 1) (used c)
 -- "4: last cell to be removed, none there"
 unfoldable pub removalOutcome : Composition → Outcome
 removalOutcome c =
-    pick (isSound c) (pick (eqb (length (used c)) 0) (refuses Empty) (writes (textOf (left c)))) (refuses Unsound)
+    pick (isSound c) (pick (eqb (length (used c)) 0) (refuses Empty) (writes (textOf (c .settings .capitals) (left c)))) (refuses Unsound)
 
 -- what it leaves, where the output has n places
 unfoldable pub removed : Composition → ℕ → After

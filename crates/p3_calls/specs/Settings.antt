@@ -1,5 +1,5 @@
--- Document 01: a new composition, the reset and the settings. They "write nothing"; each refuses a composition that is not
--- sound, by 10, and has no other refusal.
+-- Document 01: a new composition, the reset and the settings, that of request 2026-01 too. They "write nothing"; each refuses a
+-- composition that is not sound, by 10, and has no other refusal.
 use mathlib.Core.Bool.{Bool}
 use mathlib.Core.List.{[]}
 use Rattle.p0_choice.specs.Choice.{pick}
@@ -7,7 +7,7 @@ use Rattle.p0_refusals.specs.Answers.{Outcome, writes, refuses, answer}
 use Rattle.p0_refusals.specs.declared.Refusal.the-variants.{Unsound}
 use Rattle.p2_input_method.specs.declared.InputMethod.{InputMethod}
 use Rattle.p3_cells.specs.Cells.{isSound, used, composed}
-use Rattle.p3_cells.specs.Settings.{atFirst, withMethod, withMode}
+use Rattle.p3_cells.specs.Settings.{atFirst, withMethod, withMode, withCapitals}
 use Rattle.p3_cells.specs.declared.Composition.{Composition}
 use Rattle.p3_cells.specs.declared.Mode.the-variants.{Vietnamese, English}
 use Rattle.p3_cells.specs.Leaving.{leaving}
@@ -35,3 +35,7 @@ turned c on = pick on (composed (withMode (c .settings) Vietnamese) (used c)) (c
 
 unfoldable pub enabledSet : Composition → Bool → After
 enabledSet c on = leaving (answer (settled c) 0) c (turned c on)
+
+-- 2026-01, capitals: "Changing it leaves the cells. .. Refusals: none new."
+unfoldable pub capitalsSet : Composition → Bool → After
+capitalsSet c on = leaving (answer (settled c) 0) c (composed (withCapitals (c .settings) on) (used c))

@@ -6,7 +6,7 @@ ghost use lib.ListN.{length};
 ghost use Rattle.p0_refusals.specs.Answers.{answer, output};
 ghost use Rattle.p3_cells.specs.Cells.{composed};
 ghost use Rattle.p3_cells.specs.Leaving.{refusing};
-ghost use Rattle.p3_calls.specs.Settings.{created, resetTo, methodSet, enabledSet};
+ghost use Rattle.p3_calls.specs.Settings.{created, resetTo, methodSet, enabledSet, capitalsSet};
 ghost use Rattle.p3_calls.specs.Literal.{literal};
 ghost use Rattle.p3_calls.specs.Output.{textOutcome, removalOutcome, removed};
 use p0_refusals::Answer;
@@ -47,6 +47,7 @@ pub fn new(method: InputMethod) -> Composition
     empty(Settings {
         method: method,
         mode: Mode::Vietnamese,
+        capitals: false,
     })
 }
 
@@ -71,9 +72,11 @@ pub fn set_method(c: Composition, method: InputMethod) -> After
     }
     let z = c.settings;
     let mode = z.mode;
+    let capitals = z.capitals;
     let d = empty(Settings {
         method: method,
         mode: mode,
+        capitals: capitals,
     });
     After {
         comp: d,
@@ -90,10 +93,12 @@ pub fn set_enabled(mut c: Composition, enabled: bool) -> After
     }
     let z = c.settings;
     let m = z.method;
+    let capitals = z.capitals;
     if !enabled {
         let d = empty(Settings {
             method: m,
             mode: Mode::English,
+            capitals: capitals,
         });
         return After {
             comp: d,
@@ -103,8 +108,31 @@ pub fn set_enabled(mut c: Composition, enabled: bool) -> After
     let vietnamese = Settings {
         method: m,
         mode: Mode::Vietnamese,
+        capitals: capitals,
     };
     c.settings = vietnamese;
+    After {
+        comp: c,
+        answer: Answer::Done(0),
+    }
+}
+
+// Whether a flagged cell shows the capital of its letter, mark and tone included.
+pub fn set_capitals(mut c: Composition, on: bool) -> After
+    ensures { λ r. ⌜ r ≡ capitalsSet c on ⌝ }
+{
+    if !cells::sound(c) {
+        return refuse(c, Refusal::Unsound);
+    }
+    let z = c.settings;
+    let m = z.method;
+    let o = z.mode;
+    let changed = Settings {
+        method: m,
+        mode: o,
+        capitals: on,
+    };
+    c.settings = changed;
     After {
         comp: c,
         answer: Answer::Done(0),

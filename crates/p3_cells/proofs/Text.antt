@@ -8,12 +8,12 @@ use native.Mathlib.Numerals.{add-one}
 use lib.ListN.{length, getD, take, drop, set, length-map}
 use borrow.Author.Tests.{eq-eqb, ne-eqb, not-true, not-false}
 use Rattle.p0_choice.proofs.Choices.{pick-true, pick-false}
-use Rattle.p1_letters.specs.Alphabet.{isCapital, asciiUpper}
+use Rattle.p1_letters.specs.Alphabet.{isCapital, asciiUpper, upper}
 use Rattle.p1_letters.specs.Tones.{toneOn}
 use Rattle.p1_letters.proofs.ToneOn.{no-tone}
 use Rattle.p3_cells.specs.Cells.{limit, blank, used}
-use Rattle.p3_cells.specs.Mirror.{packedCell, cellOf, firstCells}
-use Rattle.p3_cells.specs.Text.{letterOf, tonedLetter, shown, textOf}
+use Rattle.p3_cells.specs.Mirror.{packedCell, cellOf, firstText}
+use Rattle.p3_cells.specs.Text.{letterOf, tonedLetter, flagged, shown, textOf}
 use Rattle.p3_cells.specs.declared.Cell.{Cell}
 use Rattle.p3_cells.specs.declared.Composition.{Composition}
 
@@ -46,49 +46,66 @@ tone-off : (x : Cell) → packedCell x < 281474976710656 → x .tone ≡ 0
 unfolding packedCell
 tone-off x h = omega arith
 
-module _ (x : Cell) (t : ℕ) (e : t ≡ tonedLetter x) where
-  pub shown-small : not (x .upper) ≡ true → t ≡ shown x
+-- ---- a flagged letter
+module _ (k : Bool) (l : ℕ) where
+  pub flagged-on : (r : ℕ) → k ≡ true → r ≡ upper l → r ≡ flagged k l
+  unfolding flagged
+  flagged-on r h q = rw h q
+
+  pub flagged-capital : (v : Bool) → k ≡ false → v ≡ isCapital l → v ≡ true → l ≡ flagged k l
+  unfolding flagged
+  flagged-capital v h p q = rw (h, ← p, q) refl
+
+  pub flagged-tried : (v : Bool) (r : ℕ) → k ≡ false → v ≡ isCapital l → v ≡ false → r ≡ asciiUpper l → r ≡ flagged k l
+  unfolding flagged
+  flagged-tried v r h p q f = rw (h, ← p, q) f
+
+-- ---- a cell, under either setting
+module _ (k : Bool) (x : Cell) where
+  pub shown-small : (t : ℕ) → t ≡ tonedLetter x → not (x .upper) ≡ true → t ≡ shown k x
   unfolding shown
-  shown-small h = rw (← e) (pick-false (x .upper) t _ t (not-true (x .upper) h) refl)
+  shown-small t e h = rw (← e) (pick-false (x .upper) t _ t (not-true (x .upper) h) refl)
 
-  pub shown-capital : (v : Bool) → not (x .upper) ≡ false → v ≡ isCapital t → v ≡ true → t ≡ shown x
+  pub shown-flagged : (t r : ℕ) → t ≡ tonedLetter x → not (x .upper) ≡ false → r ≡ flagged k t → r ≡ shown k x
   unfolding shown
-  shown-capital v h p q = rw (← e, ← p, q) (pick-true (x .upper) t t t (not-false (x .upper) h) refl)
+  shown-flagged t r e h f = rw (← e) (pick-true (x .upper) r (flagged k t) t (not-false (x .upper) h) f)
 
-  pub shown-tried : (v : Bool) (r : ℕ) → not (x .upper) ≡ false → v ≡ isCapital t → v ≡ false → r ≡ asciiUpper t → r ≡ shown x
-  unfolding shown
-  shown-tried v r h p q f = rw (← e, ← p, q) (pick-true (x .upper) r (asciiUpper t) t (not-false (x .upper) h) f)
+  -- neither a tone nor a flag
+  pub shown-bare : (l : ℕ) → x .tone ≡ 0 → x .upper ≡ false → l ≡ letterOf x → l ≡ shown k x
+  shown-bare l t u q = shown-small l (toned-none x l q t) (ap not u)
 
--- neither a tone nor a flag
-pub shown-bare : (x : Cell) (l : ℕ) → x .tone ≡ 0 → x .upper ≡ false → l ≡ letterOf x → l ≡ shown x
-shown-bare x l t u q = shown-small x l (toned-none x l q t) (ap not u)
+  pub shown-plain : (w l : ℕ) → w ≡ packedCell x → w < 281474976710656 → l ≡ letterOf x → l ≡ shown k x
+  shown-plain w l e h q = let p = rw e at h in shown-bare l (tone-off x p) (flag-off x p) q
 
-pub shown-plain : (x : Cell) (w l : ℕ) → w ≡ packedCell x → w < 281474976710656 → l ≡ letterOf x → l ≡ shown x
-shown-plain x w l e h q = let k = rw e at h in shown-bare x l (tone-off x k) (flag-off x k) q
+pub text-length : (k : Bool) (xs : List Cell) → length (textOf k xs) ≡ length xs
+unfolding textOf
+text-length k xs = length-map xs (shown k)
 
 -- ---- the first i letters are written
 unfoldable pub writtenTo : Composition → ℕ → List ℕ → List ℕ
-writtenTo c i o = textOf (firstCells c i) ++ drop i o
+writtenTo c i o = firstText c i ++ drop i o
 
 pub written-none : (c : Composition) (o : List ℕ) → o ≡ writtenTo c 0 o
 unfolding writtenTo textOf
 written-none c o = refl
 
-more : (xs : List Cell) (o : List ℕ) (i : ℕ) → i < length xs → i < length o
-    → set (map shown (take i xs) ++ drop i o) i (shown (getD xs i blank)) ≡ map shown (take (suc i) xs) ++ drop (suc i) o
-more [] o i h l = absurd (omega arith)
-more (x ∷ xs) [] i h l = absurd (omega arith)
-more (x ∷ xs) (y ∷ o) zero h l = refl
-more (x ∷ xs) (y ∷ o) (suc i) h l = ap (λ (t : List ℕ). shown x ∷ t) (more xs o i (omega arith) (omega arith))
+-- one letter more, whatever f writes for a cell
+pub map-more : (f : Cell → ℕ) (xs : List Cell) (o : List ℕ) (i : ℕ) → i < length xs → i < length o
+    → set (map f (take i xs) ++ drop i o) i (f (getD xs i blank)) ≡ map f (take (suc i) xs) ++ drop (suc i) o
+map-more f [] o i h l = absurd (omega arith)
+map-more f (x ∷ xs) [] i h l = absurd (omega arith)
+map-more f (x ∷ xs) (y ∷ o) zero h l = refl
+map-more f (x ∷ xs) (y ∷ o) (suc i) h l = ap (λ (t : List ℕ). f x ∷ t) (map-more f xs o i (omega arith) (omega arith))
 
-pub written-more : (c : Composition) (o out : List ℕ) (i v : ℕ) → out ≡ writtenTo c i o → v ≡ shown (cellOf c i)
+pub written-more : (c : Composition) (o out : List ℕ) (i v : ℕ) → out ≡ writtenTo c i o → v ≡ shown (c .settings .capitals) (cellOf c i)
     → length (c .cells) ≡ limit
     → i < c .count → c .count ≤ limit → c .count ≤ length o → set out i v ≡ writtenTo c (i + 1) o
 unfolding writtenTo textOf
-written-more c o out i v e q n h l m = rw (e, q, add-one i) (more (c .cells) o i (omega arith) (omega arith))
+written-more c o out i v e q n h l m =
+    rw (e, q, add-one i) (map-more (shown (c .settings .capitals)) (c .cells) o i (omega arith) (omega arith))
 
 pub written-all : (c : Composition) (o out : List ℕ) (i : ℕ) → out ≡ writtenTo c i o → i ≤ c .count → c .count ≤ i
-    → out ≡ textOf (used c) ++ drop (c .count) o
+    → out ≡ textOf (c .settings .capitals) (used c) ++ drop (c .count) o
 unfolding writtenTo used
 written-all c o out i e l h = let d : i ≡ c .count = omega arith in rw (← d) e
 

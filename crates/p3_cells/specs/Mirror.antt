@@ -5,6 +5,7 @@ use mathlib.Core.List.{List, map}
 use lib.ListN.{length, getD, take, set}
 use Rattle.p0_choice.specs.Choice.{pick}
 use Rattle.p3_cells.specs.Cells.{blank}
+use Rattle.p3_cells.specs.Text.{textOf}
 use Rattle.p3_cells.specs.declared.Cell.{Cell}
 use Rattle.p3_cells.specs.declared.Composition.{Composition}
 use Rattle.p3_cells.specs.declared.Settings.{Settings}
@@ -28,6 +29,10 @@ withCount c n = record { cells = c .cells; settings = c .settings; count = n }
 
 abbrev pub withSettings : Composition → Settings → Composition
 withSettings c z = record { cells = c .cells; settings = z; count = c .count }
+
+-- the text of the first n cells
+abbrev pub firstText : Composition → ℕ → List ℕ
+firstText c n = textOf (c .settings .capitals) (firstCells c n)
 
 -- a cell as one number, as the code asks whether it is blank: its fields side by side
 unfoldable pub packedCell : Cell → ℕ

@@ -9,7 +9,7 @@ ghost use Rattle.p0_choice.specs.Choice.{among};
 ghost use Rattle.p3_cells.specs.Cells.{limit, blank as blankCell, isBlank, marks, toneFits, isCell, typed as typedCell, isSound};
 ghost use Rattle.p3_cells.specs.Cells.{used};
 ghost use Rattle.p3_cells.specs.Mirror.{packedCell};
-ghost use Rattle.p3_cells.specs.Text.{letterOf, tonedLetter, shown as shownOf, textOf};
+ghost use Rattle.p3_cells.specs.Text.{letterOf, tonedLetter, flagged as flaggedOf, shown as shownOf, textOf};
 use p0_refusals::Answer;
 use p1_letters as letters;
 use p2_input_method as input_method;
@@ -34,6 +34,7 @@ pub struct Cell {
 pub struct Settings {
     pub method: InputMethod,
     pub mode: Mode,
+    pub capitals: bool,
 }
 
 pub struct Composition {
@@ -187,9 +188,22 @@ fn toned_letter(x: Cell) -> u32
     letters::apply_tone_to_char(l, x.tone as u32)
 }
 
+// What a flag makes of a letter: its capital; where capitals are off, as the Rust has it, only of an ASCII letter.
+fn flagged(capitals: bool, l: u32) -> u32
+    ensures { λ r. ⌜ r ≡ flaggedOf capitals l ⌝ }
+{
+    if capitals {
+        return letters::upper(l);
+    }
+    if letters::is_capital(l) {
+        return l;
+    }
+    letters::ascii_upper(l)
+}
+
 // Most cells have neither a tone nor a flag, which one comparison tells.
-pub fn shown(x: Cell) -> u32
-    ensures { λ r. ⌜ r ≡ shownOf x ⌝ }
+pub fn shown(capitals: bool, x: Cell) -> u32
+    ensures { λ r. ⌜ r ≡ shownOf capitals x ⌝ }
 {
     if packed(x) < 281474976710656 {
         return letter_of(x);
@@ -198,22 +212,21 @@ pub fn shown(x: Cell) -> u32
     if !x.upper {
         return t;
     }
-    if letters::is_capital(t) {
-        return t;
-    }
-    letters::ascii_upper(t)
+    flagged(capitals, t)
 }
 
 // The text, from the start of an output that has room for it; answers how many letters.
 pub fn flatten(c: Composition, out: &mut [u32]) -> usize
     requires { ⌜ (c .count ≤ limit) × (c .count ≤ length (now out)) ⌝ }
-    ensures { λ r. ⌜ (r ≡ c .count) × (now (out .exit) ≡ textOf (used c) ++ drop (c .count) (now (out .entry))) ⌝ }
+    ensures { λ r. ⌜ (r ≡ c .count) × (now (out .exit) ≡ textOf (c .settings .capitals) (used c) ++ drop (c .count) (now (out .entry))) ⌝ }
 {
     let n = c.count;
+    let z = c.settings;
+    let capitals = z.capitals;
     let mut i: usize = 0;
     while i < n {
         let x = c.cells[i];
-        out[i] = shown(x);
+        out[i] = shown(capitals, x);
         i += 1;
     }
     n

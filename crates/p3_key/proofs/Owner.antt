@@ -11,7 +11,7 @@ use Rattle.p3_cells.specs.Cells.{limit, isSound, used}
 use Rattle.p3_cells.specs.Leaving.{leaving}
 use Rattle.p3_cells.specs.declared.Cell.{Cell}
 use Rattle.p3_cells.specs.declared.Composition.{Composition}
-use Rattle.p3_cells.specs.declared.Mode.{Mode}
+use Rattle.p3_cells.specs.declared.Settings.{Settings}
 use Rattle.p3_cells.proofs.Holding.{count-fits}
 use Rattle.p3_cells.proofs.SoundTest.{fitsFrom}
 use Rattle.p3_cells.specs.Row.{bases}
@@ -64,11 +64,11 @@ stroke-known c key o b trusted s t i j u e n f l p q h g k m r =
 abbrev Stored : Composition → Stroke → Cell → Cell → Composition → Type 0
 Stored c e q p d = d ≡ withCount (withCell (withCell c (e .step .also) q) (e .step .at) p) (e .step .count)
 
-pub letters-stored : (m : Mode) (key : ℕ) (c d : Composition) (e : Stroke) (q p : Cell) (o out : List ℕ) (j v : ℕ)
-    → places c ≡ limit → Stored c e q p d → out ≡ lettersTo m key d j o → v ≡ letterFor m key (cellOf d j)
-    → j < e .letters → e .letters ≤ limit → e .letters ≤ length o → set out j v ≡ lettersTo m key d (j + 1) o
-letters-stored m key c d e q p o out j v l g h f t r r′ =
-    letters-more m key d o out j v h f (rw (g, length-set, length-set, l) (omega arith)) (omega arith)
+pub letters-stored : (z : Settings) (key : ℕ) (c d : Composition) (e : Stroke) (q p : Cell) (o out : List ℕ) (j v : ℕ)
+    → places c ≡ limit → Stored c e q p d → out ≡ lettersTo z key d j o → v ≡ letterFor z key (cellOf d j)
+    → j < e .letters → e .letters ≤ limit → e .letters ≤ length o → set out j v ≡ lettersTo z key d (j + 1) o
+letters-stored z key c d e q p o out j v l g h f t r r′ =
+    letters-more z key d o out j v h f (rw (g, length-set, length-set, l) (omega arith)) (omega arith)
 
 -- ---- the return; the row is what was lent
 pub owner-right : (c d : Composition) (key : ℕ) (o out b row : List ℕ) (trusted s : Bool) (t i j u k r : ℕ) (e : Stroke) (p q : Cell)
@@ -77,7 +77,7 @@ pub owner-right : (c d : Composition) (key : ℕ) (o out b row : List ℕ) (trus
     → u ≡ min (c .count) limit → Filled c b j → j ≤ u → u ≤ j
     → row ≡ take (u - 0) (drop 0 b) → e ≡ strokeOf s (c .settings) (rowCells row) key (c .count) (length o)
     → k ≡ asciiLower key → p ≡ put (e .step) c key k → q ≡ alsoPut (e .step) c → Stored c e q p d
-    → out ≡ lettersTo (c .settings .mode) key d r o → r ≤ e .letters → e .letters ≤ r
+    → out ≡ lettersTo (c .settings) key d r o → r ≤ e .letters → e .letters ≤ r
     → (record { comp = d; answer = e .answer } ≡ keyed c key (length o)) × (out ≡ output (keyOutcome c key) o)
 unfolding keyed leaving stepped
 owner-right c d key o out b row trusted s t i j u k r e p q n f l z y h g a v w x′ m x x″ y″ y′ r′ r″ =

@@ -6,7 +6,7 @@ use mathlib.Core.Bool.{Bool, true, false}
 use mathlib.Core.List.{List, [], _∷_, map}
 use native.Mathlib.Omega.{arith}
 use lib.Dec.{ltb}
-use lib.ListN.{length, take, length-map}
+use lib.ListN.{length, take}
 use borrow.Author.Tests.{ltb-true, ltb-false}
 use Rattle.p0_choice.specs.Choice.{pick}
 use Rattle.p0_refusals.specs.declared.Refusal.{Refusal}
@@ -25,6 +25,7 @@ use Rattle.p3_cells.specs.declared.Mode.the-variants.{Vietnamese, English}
 use Rattle.p0_refusals.specs.declared.Answer.the-variants.{Done, Refused}
 use Rattle.p3_cells.proofs.Holding.{used-cells, used-held, holding-used}
 use Rattle.p3_cells.proofs.Soundness.{sound-length}
+use Rattle.p3_cells.proofs.Text.{text-length}
 use Rattle.p3_cells.specs.Row.{bases}
 use Rattle.p3_cells.specs.Mirror.{firstCells, rowCells, places}
 use Rattle.p3_step.specs.Key.{keyCells}
@@ -35,7 +36,7 @@ use Rattle.p3_step.proofs.Same.{step-same}
 use Rattle.p3_key.specs.Process.{inMode, nextCells, writtenFor, isFull, keyOutcome, keyNext, keyed}
 use Rattle.p3_key.specs.Mirror.{letterFor, noStroke, wrote, wroteKey, stepStroke, passStroke, strokeOf}
 use Rattle.p3_key.specs.declared.Stroke.{Stroke}
-use Rattle.p3_key.proofs.Letters.{lettersTo}
+use Rattle.p3_key.proofs.Letters.{letter-shown, letter-key, lettersTo}
 
 -- ---- what a stroke leaves
 abbrev pub stroked : Composition → Stroke → ℕ → Composition
@@ -44,7 +45,7 @@ stroked c e key = stepped (e .step) c key (asciiLower key)
 pub record Right (c : Composition) (key : ℕ) (o : List ℕ) (e : Stroke) : Type 0 where
   pub comp : stroked c e key ≡ keyed c key (length o) .comp
   pub told : e .answer ≡ answer (keyOutcome c key) (length o)
-  pub out : lettersTo (c .settings .mode) key (stroked c e key) (e .letters) o ≡ output (keyOutcome c key) o
+  pub out : lettersTo (c .settings) key (stroked c e key) (e .letters) o ≡ output (keyOutcome c key) o
 
 -- ---- what there is to write, way by way
 module _ (c : Composition) (key : ℕ) where
@@ -99,10 +100,10 @@ module _ (c : Composition) (key : ℕ) (o : List ℕ) (q : keyOutcome c key ≡ 
   out-written = sym (writes-output _ _ q o _ l refl)
 
 -- ---- English mode: the letter passes through
-one-letter : (key : ℕ) (cells : List Cell) → 0 < length cells → map (letterFor English key) (take 1 cells) ≡ key ∷ []
-unfolding letterFor
-one-letter key [] h = absurd (omega arith)
-one-letter key (x ∷ xs) h = refl
+one-letter : (z : Settings) (key : ℕ) (cells : List Cell) → z .mode ≡ English → 0 < length cells
+    → map (letterFor z key) (take 1 cells) ≡ key ∷ []
+one-letter z key [] m h = absurd (omega arith)
+one-letter z key (x ∷ xs) m h = ap (λ (l : ℕ). l ∷ []) (sym (letter-key z key x m))
 
 pass-right : (c : Composition) (key : ℕ) (o : List ℕ) → 0 < places c → c .settings .mode ≡ English
     → keyOutcome c key ≡ writes (writtenFor c key) → length (writtenFor c key) ≤ length o
@@ -113,14 +114,14 @@ pass-right c key o h m q l e =
     record {
       comp = rw (comp-written c key o q l, same, m) refl;
       told = told-written c key o q l 1 (sym e);
-      out = rw (out-written c key o q l, same, m, one-letter key (c .cells) h) refl;
+      out = rw (out-written c key o q l, same, one-letter (c .settings) key (c .cells) m h, m) refl;
     }
 
 -- ---- Vietnamese: the step's cells
-held : (c : Composition) → isSound c ≡ true → (xs : List Cell) (key : ℕ) (t : Step) → Makes t (used c) xs key (asciiLower key)
+held : (c : Composition) → isSound c ≡ true → (xs : List Cell) (key : ℕ) (t : Step) → Makes (c .settings) t (used c) xs key (asciiLower key)
     → length xs ≤ limit → stroked c (wrote t) key ≡ holding c xs
 held c s xs key t h l =
-    ap (λ (d : Composition). stepped t d key (asciiLower key)) (holding-used c s) ∙ h .cells (c .settings) l
+    ap (λ (d : Composition). stepped t d key (asciiLower key)) (holding-used c s) ∙ h .cells l
 
 -- what the definitions say where the answer is a number of letters
 in-vietnamese : {A : Type 0} (m : Mode) (a b : A) → m ≡ Vietnamese → inMode m a b ≡ a
@@ -129,26 +130,24 @@ in-vietnamese m a b e = rw e refl
 in-english : {A : Type 0} (m : Mode) (a b : A) → m ≡ English → inMode m a b ≡ b
 in-english m a b e = rw e refl
 
-pub letters-vietnamese : (m : Mode) (key : ℕ) (xs : List Cell) → m ≡ Vietnamese → map (letterFor m key) xs ≡ textOf xs
-unfolding letterFor textOf
-letters-vietnamese m key xs e = rw e (go xs)
-  where
-    go : (xs : List Cell) → map (letterFor Vietnamese key) xs ≡ map shown xs
-    go [] = refl
-    go (x ∷ xs) = ap (λ (l : List ℕ). shown x ∷ l) (go xs)
+pub letters-vietnamese : (z : Settings) (key : ℕ) (xs : List Cell) → z .mode ≡ Vietnamese
+    → map (letterFor z key) xs ≡ textOf (z .capitals) xs
+unfolding textOf
+letters-vietnamese z key [] e = refl
+letters-vietnamese z key (x ∷ xs) e =
+    rw (← letter-shown z key (shown (z .capitals) x) x e refl, letters-vietnamese z key xs e) refl
 
 module _ (c : Composition) (key : ℕ) (m : c .settings .mode ≡ Vietnamese) where
-  written-vietnamese : writtenFor c key ≡ textOf (nextCells c key)
+  written-vietnamese : writtenFor c key ≡ textOf (c .settings .capitals) (nextCells c key)
   unfolding writtenFor
-  written-vietnamese = in-vietnamese (c .settings .mode) (textOf (nextCells c key)) (key ∷ []) m
+  written-vietnamese = in-vietnamese (c .settings .mode) (textOf (c .settings .capitals) (nextCells c key)) (key ∷ []) m
 
   full-vietnamese : isFull c key ≡ ltb limit (length (nextCells c key))
   unfolding isFull
   full-vietnamese = in-vietnamese (c .settings .mode) (ltb limit (length (nextCells c key))) false m
 
   written-length : length (writtenFor c key) ≡ length (nextCells c key)
-  unfolding textOf
-  written-length = rw written-vietnamese (length-map (nextCells c key) shown)
+  written-length = rw written-vietnamese (text-length (c .settings .capitals) (nextCells c key))
 
   next-vietnamese : keyNext c key ≡ holding c (nextCells c key)
   unfolding keyNext
@@ -158,7 +157,8 @@ front : (z : Settings) (xs : List Cell) → firstCells (composed z xs) (length x
 unfolding used composed
 front z xs = used-held z xs
 
-step-right : (c : Composition) → isSound c ≡ true → (key : ℕ) (t : Step) → Makes t (used c) (nextCells c key) key (asciiLower key)
+step-right : (c : Composition) → isSound c ≡ true → (key : ℕ) (t : Step)
+    → Makes (c .settings) t (used c) (nextCells c key) key (asciiLower key)
     → length (nextCells c key) ≤ limit → (o : List ℕ) → c .settings .mode ≡ Vietnamese → keyOutcome c key ≡ writes (writtenFor c key)
     → length (writtenFor c key) ≤ length o → Right c key o (wrote t)
 unfolding lettersTo
@@ -168,7 +168,7 @@ step-right c s key t h l o m q r =
       comp = d ∙ sym (comp-written c key o q r ∙ next-vietnamese c key m);
       told = told-written c key o q r (t .count) (h .count ∙ sym (written-length c key m));
       out =
-          rw (d, h .count, front (c .settings) (nextCells c key), letters-vietnamese (c .settings .mode) key (nextCells c key) m)
+          rw (d, h .count, front (c .settings) (nextCells c key), letters-vietnamese (c .settings) key (nextCells c key) m)
           (sym (out-written c key o q r ∙ rw (written-length c key m, written-vietnamese c key m) refl));
     }
 
@@ -181,7 +181,7 @@ module _ (c : Composition) (key : ℕ) (o : List ℕ) (s : isSound c ≡ true) (
 
     written-english : length (writtenFor c key) ≡ 1
     unfolding writtenFor
-    written-english = rw (in-english (c .settings .mode) (textOf (nextCells c key)) (key ∷ []) m) refl
+    written-english = rw (in-english (c .settings .mode) (textOf (c .settings .capitals) (nextCells c key)) (key ∷ []) m) refl
 
     english-right : Right c key o (passStroke (c .count) (length o))
     unfolding passStroke
@@ -196,7 +196,7 @@ module _ (c : Composition) (key : ℕ) (o : List ℕ) (s : isSound c ≡ true) (
             let l : length (writtenFor c key) ≤ length o = rw written-english (ltb-false (length o) 1 q) in
             pass-right c key o (rw (sound-length c s) (omega arith)) m (outcome-writes c key s a full-english) l written-english
 
-  module _ (m : c .settings .mode ≡ Vietnamese) (t : Step) (h : Makes t (used c) (nextCells c key) key (asciiLower key)) where
+  module _ (m : c .settings .mode ≡ Vietnamese) (t : Step) (h : Makes (c .settings) t (used c) (nextCells c key) key (asciiLower key)) where
     vietnamese-right : Right c key o (stepStroke t (c .count) (length o))
     unfolding stepStroke
     vietnamese-right = go (ltb limit (t .count)) (ltb (length o) (t .count)) refl refl
@@ -219,8 +219,8 @@ unfolding strokeOf nextCells
 stroke-right c key o = go (isSound c) (inAlphabet key) (c .settings .mode) refl refl refl
   where
     makes : isSound c ≡ true
-        → Makes (stepOf (c .settings) (rowCells (bases (used c))) (asciiLower key)) (used c) (keyCells (c .settings) (used c) key) key
-        (asciiLower key)
+        → Makes (c .settings) (stepOf (c .settings) (rowCells (bases (used c))) (asciiLower key)) (used c)
+        (keyCells (c .settings) (used c) key) key (asciiLower key)
     makes s = rw (step-same (c .settings) (used c) (asciiLower key) (used-cells c s)) (step-makes (c .settings) (used c) key)
 
     go : (s a : Bool) (m : Mode) → isSound c ≡ s → inAlphabet key ≡ a → c .settings .mode ≡ m

@@ -5,7 +5,7 @@ use mathlib.Core.Bool.{Bool, true, false}
 use mathlib.Core.List.{[], _∷_}
 use native.Mathlib.Omega.{arith}
 use lib.Dec.{ltb}
-use lib.ListN.{length, length-map}
+use lib.ListN.{length}
 use borrow.Author.Tests.{ltb-false}
 use Rattle.p0_choice.specs.Choice.{pick}
 use Rattle.p0_refusals.specs.Answers.{writes, refuses, answer}
@@ -14,21 +14,22 @@ use Rattle.p0_refusals.specs.declared.Refusal.the-variants.{Foreign, Full, Shor
 use Rattle.p0_refusals.proofs.Room.{Fits, enough}
 use Rattle.p1_letters.specs.Alphabet.{inAlphabet}
 use Rattle.p3_cells.specs.Cells.{limit, isSound}
-use Rattle.p3_cells.specs.Text.{shown, textOf}
+use Rattle.p3_cells.specs.Text.{textOf}
 use Rattle.p3_cells.specs.declared.Composition.{Composition}
 use Rattle.p3_cells.specs.declared.Mode.{Mode}
 use Rattle.p3_cells.specs.declared.Mode.the-variants.{Vietnamese, English}
+use Rattle.p3_cells.proofs.Text.{text-length}
 use Rattle.p3_key.specs.Process.{inMode, nextCells, writtenFor, isFull, keyOutcome}
 
 module _ (c : Composition) (key : ℕ) where
   -- where all cells are used, what would not fit is refused by 2
   written-short : isFull c key ≡ false → length (writtenFor c key) ≤ limit
-  unfolding writtenFor isFull textOf
+  unfolding writtenFor isFull
   written-short = go (c .settings .mode)
     where
       go : (m : Mode) → inMode m (ltb limit (length (nextCells c key))) false ≡ false
-          → length (inMode m (textOf (nextCells c key)) (key ∷ [])) ≤ limit
-      go Vietnamese e = omega (arith, length-map (nextCells c key) shown, ltb-false limit (length (nextCells c key)) e)
+          → length (inMode m (textOf (c .settings .capitals) (nextCells c key)) (key ∷ [])) ≤ limit
+      go Vietnamese e = omega (arith, text-length (c .settings .capitals) (nextCells c key), ltb-false limit (length (nextCells c key)) e)
       go English e = omega arith
 
   key-fits : Fits limit (keyOutcome c key)

@@ -67,7 +67,7 @@ pub record Bounds (room : ℕ) (e : Stroke) : Type 0 where
 refused-bounds : (room n : ℕ) (r : Refusal) → Bounds room (noStroke r n)
 refused-bounds room n r = record { at = omega arith; also = omega arith; letters = omega arith; fits = omega arith }
 
-step-bounds : (s : Step) (cs xs : List Cell) (key k n room : ℕ) → Makes s cs xs key k → Bounds room (stepStroke s n room)
+step-bounds : {z : Settings} (s : Step) (cs xs : List Cell) (key k n room : ℕ) → Makes z s cs xs key k → Bounds room (stepStroke s n room)
 unfolding stepStroke
 step-bounds s cs xs key k n room h = go (ltb limit (s .count)) (ltb room (s .count)) refl refl
   where

@@ -12,7 +12,6 @@ use Rattle.p1_letters.specs.Alphabet.{inAlphabet, asciiLower}
 use Rattle.p3_cells.specs.Cells.{limit}
 use Rattle.p3_cells.specs.Text.{shown}
 use Rattle.p3_cells.specs.declared.Cell.{Cell}
-use Rattle.p3_cells.specs.declared.Mode.{Mode}
 use Rattle.p3_cells.specs.declared.Settings.{Settings}
 use Rattle.p0_refusals.specs.declared.Answer.{Answer}
 use Rattle.p0_refusals.specs.declared.Answer.the-variants.{Done, Refused}
@@ -26,8 +25,8 @@ unfoldable pub soundBy : Bool → ℕ → ℕ → Bool
 soundBy trusted n faults = pick trusted true (pick (ltb limit n) false (eqb faults 0))
 
 -- the letter that is written for a cell
-unfoldable pub letterFor : Mode → ℕ → Cell → ℕ
-letterFor o key z = inMode o (shown z) key
+unfoldable pub letterFor : Settings → ℕ → Cell → ℕ
+letterFor z key x = inMode (z .mode) (shown (z .capitals) x) key
 
 -- ---- the step with the refusals; n cells are used, and the output has room letters
 abbrev pub stays : ℕ → ℕ → Answer → Stroke

@@ -28,7 +28,7 @@ nextCells c key = keyCells (c .settings) (used c) key
 
 -- what is written: the text, and "in English mode .. that one letter"
 unfoldable pub writtenFor : Composition → ℕ → List ℕ
-writtenFor c key = inMode (c .settings .mode) (textOf (nextCells c key)) (key ∷ [])
+writtenFor c key = inMode (c .settings .mode) (textOf (c .settings .capitals) (nextCells c key)) (key ∷ [])
 
 -- "a letter must be appended and 32 cells are used": then there would be one more
 unfoldable pub isFull : Composition → ℕ → Bool

@@ -35,11 +35,12 @@ pub struct Stroke {
 
 // ---- the letters and the refusals
 
-fn letter_for(o: Mode, key: u32, z: Cell) -> u32
-    ensures { λ r. ⌜ r ≡ letterFor o key z ⌝ }
+fn letter_for(z: Settings, key: u32, x: Cell) -> u32
+    ensures { λ r. ⌜ r ≡ letterFor z key x ⌝ }
 {
+    let o = z.mode;
     match o {
-        Mode::Vietnamese => cells::shown(z),
+        Mode::Vietnamese => cells::shown(z.capitals, x),
         Mode::English => key,
     }
 }
@@ -177,7 +178,6 @@ fn compose(mut c: Composition, key: u32, out: &mut [u32], trusted: bool) -> Afte
     }
     let sound = is_sound(trusted, n, faults);
     let z = c.settings;
-    let o = z.mode;
     let e = stroke_of(sound, z, &bases[0..used], key, n, out.len());
     let s = e.step;
     let change = s.change;
@@ -192,13 +192,15 @@ fn compose(mut c: Composition, key: u32, out: &mut [u32], trusted: bool) -> Afte
         key,
         letters::ascii_lower(key),
     );
-    c.cells[also] = step::also_cell(change, y);
+    c.cells[also] = step::also_cell(change, z.capitals, y);
     c.cells[at] = p;
     c.count = s.count;
+    // read where they lie, which costs less than to keep them over the step
+    let w = c.settings;
     let count = e.letters;
     let mut j: usize = 0;
     while j < count {
-        out[j] = letter_for(o, key, c.cells[j]);
+        out[j] = letter_for(w, key, c.cells[j]);
         j += 1;
     }
     let answer = e.answer;

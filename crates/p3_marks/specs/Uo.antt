@@ -1,7 +1,7 @@
 -- Document 01, "A key, step by step", *uo*.
 use Prim.Native.Nat.{ℕ, zero, suc}
 use Prim.Native.Char.{code}
-use mathlib.Core.Bool.{false}
+use mathlib.Core.Bool.{Bool, false}
 use mathlib.Core.List.{List}
 use lib.Dec.{eqb}
 use lib.ListN.{length, getD, set}
@@ -34,10 +34,11 @@ uoPlace cs = uoBack cs 5 (length cs)
 unfoldable pub hornU : Cell → Cell → Cell
 hornU u o = record { base = code "ư"; mark = code "ư"; tone = o .tone; upper = u .upper }
 
-unfoldable pub hornO : Cell → Cell
-hornO o = record { base = code "ơ"; mark = code "ơ"; tone = 0; upper = false }
+-- request 2026-01, with capitals on: "in the uo step ơ keeps the o's own flag"
+unfoldable pub hornO : Bool → Cell → Cell
+hornO capitals o = record { base = code "ơ"; mark = code "ơ"; tone = 0; upper = pick capitals (o .upper) false }
 
 -- each of the two is made of the cells that stood
-unfoldable pub uoMade : List Cell → ℕ → List Cell
-uoMade cs i =
-    set (set cs (suc i) (hornO (getD cs (suc i) blank))) i (hornU (getD cs i blank) (getD cs (suc i) blank))
+unfoldable pub uoMade : Bool → List Cell → ℕ → List Cell
+uoMade capitals cs i =
+    set (set cs (suc i) (hornO capitals (getD cs (suc i) blank))) i (hornU (getD cs i blank) (getD cs (suc i) blank))

@@ -1,7 +1,8 @@
 -- The cells of a step, change by change.
 use Prim.Native.Nat.{ℕ, _%_}
 use mathlib.Core.Path.{_≡_, refl}
-use mathlib.Core.Bool.{false}
+use mathlib.Core.Bool.{Bool, false}
+use Rattle.p0_choice.specs.Choice.{pick}
 use Rattle.p3_cells.specs.Cells.{typed}
 use Rattle.p3_cells.specs.declared.Cell.{Cell}
 use Rattle.p3_marks.specs.Uo.{hornU, hornO}
@@ -31,23 +32,24 @@ module _ (h : Change) (l : ℕ) (x y : Cell) (key k : ℕ) where
   unfolding putCell
   put-append p e q = rw e q
 
-module _ (h : Change) (y : Cell) where
-  pub also-pair : h ≡ Pair → record { base = 0x1a1; mark = 0x1a1; tone = 0; upper = false } ≡ alsoCell h y
+module _ (h : Change) (k : Bool) (y : Cell) where
+  pub also-pair : (u : Bool) → h ≡ Pair → u ≡ pick k (y .upper) false
+      → record { base = 0x1a1; mark = 0x1a1; tone = 0; upper = u } ≡ alsoCell h k y
   unfolding alsoCell hornO
-  also-pair e = rw e refl
+  also-pair u e q = rw (e, q) refl
 
-  pub also-nothing : h ≡ Nothing → y ≡ alsoCell h y
+  pub also-nothing : h ≡ Nothing → y ≡ alsoCell h k y
   unfolding alsoCell
   also-nothing e = rw e refl
 
-  pub also-tone : h ≡ Tone → y ≡ alsoCell h y
+  pub also-tone : h ≡ Tone → y ≡ alsoCell h k y
   unfolding alsoCell
   also-tone e = rw e refl
 
-  pub also-mark : h ≡ Mark → y ≡ alsoCell h y
+  pub also-mark : h ≡ Mark → y ≡ alsoCell h k y
   unfolding alsoCell
   also-mark e = rw e refl
 
-  pub also-append : h ≡ Append → y ≡ alsoCell h y
+  pub also-append : h ≡ Append → y ≡ alsoCell h k y
   unfolding alsoCell
   also-append e = rw e refl

@@ -48,7 +48,7 @@ module _ (z : Settings) (cs : List Cell) (key : ℕ) where
   unfolding hornOrLater uoMade uaMade
   horn-frame k =
       pick-both (Framed cs) (isHornKey (z .method) k) _ _
-      (λ e. place-both (Framed cs) (uoPlace cs) (uoMade cs) _ (λ i u. changesTwo i _ _ (uo-below cs i u))
+      (λ e. place-both (Framed cs) (uoPlace cs) (uoMade (z .capitals) cs) _ (λ i u. changesTwo i _ _ (uo-below cs i u))
       (place-both (Framed cs) (uaPlace cs) (uaMade cs) _ (λ i u. changes i _ (ua-below cs i u)) (mark-frame k)))
       (λ e. mark-frame k)
 

@@ -38,11 +38,11 @@ module _ (z : Settings) (cs : List Cell) (s : each isCell cs ≡ true) where
   unfolding marks word
   horn-mark = refl
 
-  pair-kept : (i : ℕ) → suc i < length cs → each isCell (uoMade cs i) ≡ true
+  pair-kept : (i : ℕ) → suc i < length cs → each isCell (uoMade (z .capitals) cs i) ≡ true
   unfolding uoMade hornU hornO marks word
   pair-kept i h =
-      each-set isCell (set cs (suc i) (hornO (getD cs (suc i) blank))) i (hornU (getD cs i blank) (getD cs (suc i) blank))
-      (each-set isCell cs (suc i) (hornO (getD cs (suc i) blank)) s (bare-marked-cell 0x1a1 false refl))
+      each-set isCell (set cs (suc i) (hornO (z .capitals) (getD cs (suc i) blank))) i (hornU (getD cs i blank) (getD cs (suc i) blank))
+      (each-set isCell cs (suc i) (hornO (z .capitals) (getD cs (suc i) blank)) s (bare-marked-cell 0x1a1 _ refl))
       (marked-cell 0x1b0 (getD cs (suc i) blank) (getD cs i blank .upper) horn-mark (each-at isCell blank cs s (suc i) h))
 
   module _ (key : ℕ) (a : inAlphabet key ≡ true) where
@@ -62,7 +62,7 @@ module _ (z : Settings) (cs : List Cell) (s : each isCell cs ≡ true) where
     horn-kept k = go (isHornKey (z .method) k) (uoPlace cs) (uaPlace cs) refl refl
       where
         go : (v : Bool) (p q : Place) → uoPlace cs ≡ p → uaPlace cs ≡ q
-            → each isCell (pick v (placeOr p (uoMade cs)
+            → each isCell (pick v (placeOr p (uoMade (z .capitals) cs)
             (placeOr q (λ i. set cs i (marked (getD cs i blank) 0x1b0)) (markOrLater z cs key k))) (markOrLater z cs key k)) ≡ true
         go false p q e f = mark-kept k
         go true (At i) q e f = pair-kept i (uo-below cs i e)

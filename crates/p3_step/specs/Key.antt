@@ -32,7 +32,8 @@ markOrLater z cs key k = placeOr (markPlace (z .method) cs k) (markMade (z .meth
 -- *uo* and *ua*, on their key, else the later ones
 unfoldable pub hornOrLater : Settings → List Cell → ℕ → ℕ → List Cell
 hornOrLater z cs key k =
-    pick (isHornKey (z .method) k) (placeOr (uoPlace cs) (uoMade cs) (placeOr (uaPlace cs) (uaMade cs) (markOrLater z cs key k)))
+    pick (isHornKey (z .method) k)
+    (placeOr (uoPlace cs) (uoMade (z .capitals) cs) (placeOr (uaPlace cs) (uaMade cs) (markOrLater z cs key k)))
     (markOrLater z cs key k)
 
 -- *Tone*: "k is a tone key and any cell's letter in the whole composition .. is a composer vowel", else the later ones

@@ -3,6 +3,7 @@
 -- these numbers are document 01's step, keyCells, is proved (proofs/Makes).
 use Prim.Native.Nat.{ℕ, _+_, _%_}
 use Prim.Native.Char.{code}
+use mathlib.Core.Bool.{Bool}
 use mathlib.Core.List.{List}
 use lib.ListN.{length}
 use Rattle.p0_choice.specs.Choice.{pick}
@@ -70,16 +71,16 @@ putCell Mark l x y key k = marked x l
 putCell Pair l x y key k = hornU x y
 putCell Append l x y key k = typed key
 
-unfoldable pub alsoCell : Change → Cell → Cell
-alsoCell Nothing y = y
-alsoCell Tone y = y
-alsoCell Mark y = y
-alsoCell Pair y = hornO y
-alsoCell Append y = y
+unfoldable pub alsoCell : Change → Bool → Cell → Cell
+alsoCell Nothing capitals y = y
+alsoCell Tone capitals y = y
+alsoCell Mark capitals y = y
+alsoCell Pair capitals y = hornO capitals y
+alsoCell Append capitals y = y
 
 -- the two cells that a step puts into a composition, each made of what stands there
 abbrev pub put : Step → Composition → ℕ → ℕ → Cell
 put s c key k = putCell (s .change) (s .mark) (cellOf c (s .at)) (cellOf c (s .also)) key k
 
 abbrev pub alsoPut : Step → Composition → Cell
-alsoPut s c = alsoCell (s .change) (cellOf c (s .also))
+alsoPut s c = alsoCell (s .change) (c .settings .capitals) (cellOf c (s .also))

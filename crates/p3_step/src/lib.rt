@@ -1,8 +1,10 @@
 // The step of a key (bamboo.rs: process_key), the first that fits, over a lent row of bases: as numbers, since a
 // composition by value would be copied at each step.
 ghost use mathlib.Core.Path.{_≡_};
+ghost use mathlib.Core.Bool.{false};
 ghost use Prim.Native.Nat.{_≤_};
 ghost use lib.ListN.{length};
+ghost use Rattle.p0_choice.specs.Choice.{pick};
 ghost use Rattle.p3_cells.specs.Cells.{limit};
 ghost use Rattle.p3_cells.specs.Mirror.{rowCells};
 ghost use Rattle.p3_step.specs.Mirror.{toneFor, uoFor, uaFor, markStep, uaStep, uoStep, stepOf, putCell, alsoCell};
@@ -175,17 +177,30 @@ pub fn put_cell(change: Change, mark: u16, x: Cell, y: Cell, key: u32, k: u32) -
     }
 }
 
+// The ơ of a pair has a flag only where capitals are on: the o's.
+fn flag_kept(capitals: bool, upper: bool) -> bool
+    ensures { λ r. ⌜ r ≡ pick capitals upper false ⌝ }
+{
+    if capitals {
+        return upper;
+    }
+    false
+}
+
 // The cell at the other place, where y stands. It is stored first: where the two places are one, the place's own cell stays.
-pub fn also_cell(change: Change, y: Cell) -> Cell
-    ensures { λ r. ⌜ r ≡ alsoCell change y ⌝ }
+pub fn also_cell(change: Change, capitals: bool, y: Cell) -> Cell
+    ensures { λ r. ⌜ r ≡ alsoCell change capitals y ⌝ }
 {
     match change {
-        Change::Pair => Cell {
-            base: 0x1a1,
-            mark: 0x1a1,
-            tone: 0,
-            upper: false,
-        },
+        Change::Pair => {
+            let kept = flag_kept(capitals, y.upper);
+            Cell {
+                base: 0x1a1,
+                mark: 0x1a1,
+                tone: 0,
+                upper: kept,
+            }
+        }
         Change::Nothing => y,
         Change::Tone => y,
         Change::Mark => y,

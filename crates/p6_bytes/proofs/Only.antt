@@ -17,6 +17,13 @@ pub mode-number-only :
     OneAnswerAsked own.mode_number.Kinds.ps own.mode_number.Kinds.r own.mode_number.Reads.Asked own.mode_number.Reads.Learnt
 mode-number-only κs a asked z z′ w w′ q q′ = (alike q q′, refl)
 
+pub capitals-only : OneAnswerAsked own.capitals.Kinds.ps own.capitals.Kinds.r own.capitals.Reads.Asked own.capitals.Reads.Learnt
+capitals-only κs a asked z z′ w w′ q q′ = (alike q q′, refl)
+
+pub capitals-number-only :
+    OneAnswerAsked own.capitals_number.Kinds.ps own.capitals_number.Kinds.r own.capitals_number.Reads.Asked own.capitals_number.Reads.Learnt
+capitals-number-only κs a asked z z′ w w′ q q′ = (alike q q′, refl)
+
 pub cell-count-only : OneAnswerAsked own.cell_count.Kinds.ps own.cell_count.Kinds.r own.cell_count.Reads.Asked own.cell_count.Reads.Learnt
 cell-count-only κs a asked z z′ w w′ q q′ = (alike q q′, refl)
 

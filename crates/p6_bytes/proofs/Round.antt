@@ -24,7 +24,7 @@ use Rattle.p6_bytes.specs.Bytes.{cellAt, cellsAt, methodOf, modeOf, comp
 use Rattle.p6_zeros.specs.Zeros.{byteAt, isZero}
 use Rattle.p6_bytes.specs.Bytes.{bytesSound}
 use Rattle.p6_bytes.proofs.Writing.{cell-length, bytes-length}
-use Rattle.p6_bytes.proofs.Sound.{sound-size, sound-method, sound-mode, sound-reserved, sound-flag}
+use Rattle.p6_bytes.proofs.Sound.{sound-size, sound-method, sound-mode, sound-capitals, sound-reserved, sound-flag}
 
 -- ---- read back
 flag-back : (t : Bool) → eqb (flagByte t) 1 ≡ t
@@ -102,7 +102,7 @@ pub read-written : (c : Composition) → length (c .cells) ≡ limit → composi
 unfolding bytesOf headBytes compositionOf
 read-written c n =
     let k : cellsAt limit (bytesOf c) head ≡ c .cells = rw n at (cells-back (headBytes c) (c .cells) head refl) in
-    rw (k, method-back (c .settings .method), mode-back (c .settings .mode)) refl
+    rw (k, method-back (c .settings .method), mode-back (c .settings .mode), flag-back (c .settings .capitals)) refl
 
 module _ (c : Composition) where
   method-small : methodByte (c .settings .method) ≤ 1
@@ -129,12 +129,13 @@ module _ (c : Composition) where
         eq-eqb (length (bytesOf c)) size l,
         le-leb (methodByte (c .settings .method)) 1 method-small,
         le-leb (modeByte (c .settings .mode)) 1 mode-small,
+        le-leb (flagByte (c .settings .capitals)) 1 (flag-small (c .settings .capitals)),
         each-from (spellsCell (bytesOf c)) limit 0 (λ i k h. le-leb _ 1 (flags-back (headBytes c) (c .cells) head refl i (omega arith))),
       )
       (rw (read-written c n) s)
 
 -- ---- written back
-flag-forth : (x : ℕ) → x ≤ 1 → flagByte (eqb x 1) ≡ x
+pub flag-forth : (x : ℕ) → x ≤ 1 → flagByte (eqb x 1) ≡ x
 flag-forth zero h = refl
 flag-forth (suc zero) h = refl
 flag-forth (suc (suc x)) h = absurd (omega arith)
@@ -241,18 +242,23 @@ module _ (b : List ℕ) (bytes : (k : ℕ) → byteAt b k < 256) where
       let c : cellsBytes (cellsAt limit b head) ≡ take (8 * limit) (drop head b) =
       cells-forth limit head (omega arith) (λ i h. leb-true _ 1 (sound-flag b s i h)) in
       let a : take (8 * limit) (drop head b) ≡ drop head b = take-all (8 * limit) (drop head b) (omega (arith, length-drop head b)) in
-      let h : take head b ≡ byteAt b 0 ∷ byteAt b 1 ∷ byteAt b 2 ∷ zeros (head - known)
+      let h : take head b ≡ byteAt b 0 ∷ byteAt b 1 ∷ byteAt b 2 ∷ byteAt b 3 ∷ zeros (head - known)
       = eight b 0 (omega arith) ∙ rw (
-        free 3 (omega arith) (omega arith),
         free 4 (omega arith) (omega arith),
         free 5 (omega arith)
             (omega arith),
         free 6 (omega arith) (omega arith),
         free 7 (omega arith) (omega arith),
       ) refl in
-      let whole : (byteAt b 0 ∷ byteAt b 1 ∷ byteAt b 2 ∷ zeros (head - known)) ++ drop head b ≡ b =
+      let whole : (byteAt b 0 ∷ byteAt b 1 ∷ byteAt b 2 ∷ byteAt b 3 ∷ zeros (head - known)) ++ drop head b ≡ b =
       ap (λ (t : List ℕ). t ++ drop head b) (sym h) ∙ take-append-drop head b in
-      rw (method-forth (byteAt b 0) (sound-method b s), mode-forth (byteAt b 1) (sound-mode b s), c, a) whole
+      rw (
+        method-forth (byteAt b 0) (sound-method b s),
+        mode-forth (byteAt b 1) (sound-mode b s),
+        flag-forth (byteAt b 3) (sound-capitals b s),
+        c,
+        a,
+      ) whole
     where
       free : (i : ℕ) → known ≤ i → i < head → byteAt b i ≡ 0
       free = sound-reserved b s

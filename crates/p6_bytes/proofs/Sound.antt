@@ -23,7 +23,7 @@ use Rattle.p6_bytes.specs.Bytes.{head, known, start, size, cellAt, compo
 use Rattle.p6_zeros.specs.Zeros.{byteAt}
 use Rattle.p6_bytes.specs.Bytes.{reservedZero, bytesSound}
 use Rattle.p6_zeros.specs.Zeros.{isZero}
-use Rattle.p6_bytes.specs.Mirror.{cellFits, cellsFit}
+use Rattle.p6_bytes.specs.Mirror.{restFits, cellFits, cellsFit}
 use Rattle.p6_zeros.specs.Mirror.{zeroIn, zeroFrom}
 use Rattle.p6_zeros.proofs.Zeros.{part-zero}
 use Rattle.p6_bytes.proofs.Reading.{cells-length, cells-at}
@@ -85,16 +85,24 @@ module _ (b : List ℕ) (i : ℕ) where
 
 -- ---- what sound bytes hold
 module _ (b : List ℕ) (s : bytesSound b ≡ true) where
-  tests : (length b ≡ size) × (byteAt b 0 ≤ 1) × (byteAt b 1 ≤ 1) × (reservedZero b ≡ true) × (each (spellsCell b) (from limit 0) ≡ true) ×
-      (isSound (compositionOf b) ≡ true)
+  tests : (length b ≡ size) × (byteAt b 0 ≤ 1) × (byteAt b 1 ≤ 1) × (byteAt b 3 ≤ 1) × (reservedZero b ≡ true) ×
+      (each (spellsCell b) (from limit 0) ≡ true) × (isSound (compositionOf b) ≡ true)
   unfolding bytesSound
   tests =
       let t0 = both-are (eqb (length b) size) _ s in
       let t1 = both-are (leb (byteAt b 0) 1) _ (t0 .1) in
       let t2 = both-are (leb (byteAt b 1) 1) _ (t1 .1) in
-      let t3 = both-are (reservedZero b) _ (t2 .1) in
-      let t4 = both-are (each (spellsCell b) (from limit 0)) _ (t3 .1) in
-      (eqb-true (length b) size (t0 .0), leb-true (byteAt b 0) 1 (t1 .0), leb-true (byteAt b 1) 1 (t2 .0), t3 .0, t4 .0, t4 .1)
+      let t3 = both-are (leb (byteAt b 3) 1) _ (t2 .1) in
+      let t4 = both-are (reservedZero b) _ (t3 .1) in
+      let t5 = both-are (each (spellsCell b) (from limit 0)) _ (t4 .1) in (
+        eqb-true (length b) size (t0 .0),
+        leb-true (byteAt b 0) 1 (t1 .0),
+        leb-true (byteAt b 1) 1 (t2 .0),
+        leb-true (byteAt b 3) 1 (t3 .0),
+        t4 .0,
+        t5 .0,
+        t5 .1,
+      )
 
   pub sound-size : length b ≡ size
   sound-size = tests .0
@@ -105,18 +113,25 @@ module _ (b : List ℕ) (s : bytesSound b ≡ true) where
   pub sound-mode : byteAt b 1 ≤ 1
   sound-mode = tests .2
 
+  pub sound-capitals : byteAt b 3 ≤ 1
+  sound-capitals = tests .3
+
   sound-free : reservedZero b ≡ true
-  sound-free = tests .3
+  sound-free = tests .4
+
+  sound-rest : restFits b ≡ true
+  unfolding restFits
+  sound-rest = are-both _ _ (le-leb (byteAt b 3) 1 sound-capitals) sound-free
 
   pub sound-reserved : (i : ℕ) → known ≤ i → i < head → byteAt b i ≡ 0
   unfolding reservedZero isZero
   sound-reserved i l h = eqb-true (byteAt b i) 0 (each-is (isZero b) (head - known) known sound-free i l (omega arith))
 
   pub sound-flag : (i : ℕ) → i < limit → spellsCell b i ≡ true
-  sound-flag i h = each-is (spellsCell b) limit 0 (tests .4) i (omega arith) (omega arith)
+  sound-flag i h = each-is (spellsCell b) limit 0 (tests .5) i (omega arith) (omega arith)
 
   pub sound-composition : isSound (compositionOf b) ≡ true
-  sound-composition = tests .5
+  sound-composition = tests .6
 
   pub sound-count : byteAt b 2 ≤ limit
   unfolding compositionOf
@@ -178,8 +193,8 @@ module _ (b : List ℕ) where
       go true e = absurd (omega (arith, sound-mode b e))
       go false e = refl
 
-  pub no-reserved : (v : Bool) → v ≡ reservedZero b → not v ≡ true → false ≡ bytesSound b
-  no-reserved v q t = sym (not-yes (bytesSound b) v (λ (e : bytesSound b ≡ true). q ∙ sound-free b e) (not-true v t))
+  pub no-rest : (v : Bool) → v ≡ restFits b → not v ≡ true → false ≡ bytesSound b
+  no-rest v q t = sym (not-yes (bytesSound b) v (λ (e : bytesSound b ≡ true). q ∙ sound-rest b e) (not-true v t))
 
   module _ (n : ℕ) (p : n ≡ byteAt b 2) where
     pub no-count : limit < n → false ≡ bytesSound b
@@ -192,16 +207,18 @@ module _ (b : List ℕ) where
     pub no-cells : (v : Bool) → v ≡ cellsFit b n → not v ≡ true → false ≡ bytesSound b
     no-cells v q t = sym (not-yes (bytesSound b) v (λ (e : bytesSound b ≡ true). q ∙ rw p (sound-cells b e)) (not-true v t))
 
-    tests-sound : length b ≡ size → byteAt b 0 ≤ 1 → byteAt b 1 ≤ 1 → n ≤ limit → reservedZero b ≡ true → cellsFit b n ≡ true
+    tests-sound : length b ≡ size → byteAt b 0 ≤ 1 → byteAt b 1 ≤ 1 → n ≤ limit → restFits b ≡ true → cellsFit b n ≡ true
         → zeroFrom b (start n) ≡ true
         → bytesSound b ≡ true
-    unfolding bytesSound compositionOf cellsFit cellFits zeroFrom zeroIn isZero
+    unfolding bytesSound restFits compositionOf cellsFit cellFits zeroFrom zeroIn isZero
     tests-sound l m o f w c z =
+        let r = both-are (leb (byteAt b 3) 1) (reservedZero b) w in
         rw (
           eq-eqb (length b) size l,
           le-leb (byteAt b 0) 1 m,
           le-leb (byteAt b 1) 1 o,
-          w,
+          r .0,
+          r .1,
           each-from (spellsCell b) limit 0
               (λ i k h. flags i (omega arith)),
         )
@@ -227,7 +244,7 @@ module _ (b : List ℕ) where
         }
 
     -- the last test decides, on the part past the cells in use
-    pub zero-decides : (r w v : Bool) (part : List ℕ) → length b ≡ size → byteAt b 0 ≤ 1 → byteAt b 1 ≤ 1 → n ≤ limit → w ≡ reservedZero b
+    pub zero-decides : (r w v : Bool) (part : List ℕ) → length b ≡ size → byteAt b 0 ≤ 1 → byteAt b 1 ≤ 1 → n ≤ limit → w ≡ restFits b
         → not w ≡ false → v ≡ cellsFit b n → not v ≡ false → part ≡ take (size - start n) (drop (start n) b) → r ≡ zeroFrom part 0
         → r ≡ bytesSound b
     zero-decides r w v part l m o f g d q t h k =

@@ -1,7 +1,7 @@
 -- The cells where they lie: one is read, and one, or a byte of the head, is stored.
 use Prim.Native.Nat.{ℕ, zero, suc, _+_, _*_, _-_, _<_, _≤_}
 use mathlib.Core.Path.{_≡_, refl, sym, ap, _∙_}
-use mathlib.Core.Bool.{true, false}
+use mathlib.Core.Bool.{Bool, true, false}
 use mathlib.Core.List.{List, [], _∷_, _++_, append-nil}
 use native.Mathlib.Omega.{arith}
 use lib.ListN.{length, take, drop, set, length-set, drop-of-length-le}
@@ -15,8 +15,8 @@ use Rattle.p3_cells.specs.Text.{letterOf, shown}
 use Rattle.p3_cells.specs.declared.Cell.{Cell}
 use Rattle.p3_cells.specs.declared.Composition.{Composition}
 use Rattle.p3_cells.specs.declared.Mode.{Mode}
-use Rattle.p3_cells.specs.Settings.{atFirst, withMethod, withMode}
-use Rattle.p6_bytes.specs.Bytes.{head, start, size, methodByte, modeByte, cellBytes, cellsBytes, headBytes, bytesOf}
+use Rattle.p3_cells.specs.Settings.{atFirst, withMethod, withMode, withCapitals}
+use Rattle.p6_bytes.specs.Bytes.{head, start, size, methodByte, modeByte, flagByte, cellBytes, cellsBytes, headBytes, bytesOf}
 use Rattle.p6_zeros.specs.Zeros.{zeros, byteAt}
 use Rattle.p6_zeros.specs.Mirror.{longAt}
 use Rattle.p3_cells.proofs.Text.{shown-bare}
@@ -44,14 +44,16 @@ unfolding compositionOf
 cell-there b i r h e = e ∙ sym (cells-at limit b head i h)
 
 -- neither a tone nor a flag: the last two bytes are 0
-pub bare-shown : (b : List ℕ) (i w l : ℕ) (x : Cell) → w ≡ longAt b (start i) → w < 281474976710656 → i < limit
-    → x ≡ cellOf (compositionOf b) i → l ≡ letterOf x → l ≡ shown (cellOf (compositionOf b) i)
-bare-shown b i w l x e h k p q =
-    let c : cellOf (compositionOf b) i ≡ cellAt b (start i) = sym (cell-there b i _ k refl) in
-    rw c (shown-bare (cellAt b (start i)) l (toneless b (start i) (rw e at h)) (flagless b (start i) (rw e at h)) (q ∙ ap letterOf (p ∙ c)))
+pub bare-shown : (b : List ℕ) (k : Bool) (i w l : ℕ) (x : Cell) → w ≡ longAt b (start i) → w < 281474976710656 → i < limit
+    → x ≡ cellOf (compositionOf b) i → l ≡ letterOf x → l ≡ shown k (cellOf (compositionOf b) i)
+bare-shown b k i w l x e h j p q =
+    let c : cellOf (compositionOf b) i ≡ cellAt b (start i) = sym (cell-there b i _ j refl) in
+    rw c (shown-bare k (cellAt b (start i)) l (toneless b (start i) (rw e at h)) (flagless b (start i) (rw e at h))
+    (q ∙ ap letterOf (p ∙ c)))
 
-pub other-shown : (b : List ℕ) (i r : ℕ) (x : Cell) → x ≡ cellOf (compositionOf b) i → r ≡ shown x → r ≡ shown (cellOf (compositionOf b) i)
-other-shown b i r x p q = q ∙ ap shown p
+pub other-shown : (b : List ℕ) (k : Bool) (i r : ℕ) (x : Cell) → x ≡ cellOf (compositionOf b) i → r ≡ shown k x
+    → r ≡ shown k (cellOf (compositionOf b) i)
+other-shown b k i r x p q = q ∙ ap (shown k) p
 
 -- ---- a cell and the count, stored
 pub stored-is : (b next : List ℕ) (i : ℕ) (x : Cell)
@@ -91,6 +93,11 @@ pub mode-stored : (c : Composition) (o : Mode) (n : ℕ) → n ≡ modeByte o
     → set (bytesOf c) 1 n ≡ bytesOf (withSettings c (withMode (c .settings) o))
 unfolding bytesOf headBytes
 mode-stored c o n e = rw e refl
+
+pub capitals-stored : (c : Composition) (on : Bool) (n : ℕ) → n ≡ flagByte on
+    → set (bytesOf c) 3 n ≡ bytesOf (withSettings c (withCapitals (c .settings) on))
+unfolding bytesOf headBytes
+capitals-stored c on n e = rw e refl
 
 -- ---- no cells
 pub set-room : (b : List ℕ) (i x : ℕ) → length b ≡ size → size ≤ length (set b i x)

@@ -1,12 +1,12 @@
 -- The loops of the test: what is left decides.
 use Prim.Native.Nat.{ℕ, suc, _+_, _-_, _≤_, _<_}
-use mathlib.Core.Path.{_≡_, refl, sym, _∙_}
+use mathlib.Core.Path.{_≡_, refl, sym, ap, _∙_}
 use mathlib.Core.Bool.{Bool, true, false, not}
 use mathlib.Core.List.{List}
 use mathlib.Core.Logic.{inl}
 use native.Mathlib.Omega.{arith}
-use lib.Dec.{eqb, ltb}
-use borrow.Author.Tests.{ne-eqb, eqb-true, eqb-false, lt-ltb, le-ltb, le-leb, lt-leb, not-true, not-false}
+use lib.Dec.{eqb, ltb, leb}
+use borrow.Author.Tests.{ne-eqb, eqb-true, eqb-false, lt-ltb, le-ltb, le-leb, lt-leb, leb-true, leb-false, not-true, not-false}
 use mir.Syntax.{w8}
 use mir.Val.{Fits}
 use Rattle.p0_choice.specs.Choice.{pick, each, from as numbers}
@@ -17,7 +17,7 @@ use Rattle.p3_cells.specs.declared.Cell.{Cell}
 use Rattle.p3_cells.proofs.Soundness.{is-cell}
 use Rattle.p6_bytes.specs.Bytes.{cellAt, start, spellsCell, reservedZero}
 use Rattle.p6_zeros.specs.Zeros.{byteAt, isZero}
-use Rattle.p6_bytes.specs.Mirror.{cellFits, cellsFit}
+use Rattle.p6_bytes.specs.Mirror.{restFits, cellFits, cellsFit}
 use Rattle.p6_zeros.specs.Mirror.{longAt}
 
 turn : (p : ℕ → Bool) (n i : ℕ) → i < n → each p (numbers (n - i) i) ≡ pick (p i) (each p (numbers (n - (i + 1)) (i + 1))) false
@@ -29,7 +29,7 @@ turn p n i h =
 end : (p : ℕ → Bool) (n i : ℕ) → n ≤ i → each p (numbers (n - i) i) ≡ true
 end p n i h = let d : n - i ≡ 0 = omega arith in rw d
 
--- ---- the reserved bytes
+-- ---- the head past the count
 whole : (t : Bool) → pick t true false ≡ t
 whole true = refl
 whole false = refl
@@ -42,24 +42,25 @@ sum-zero x y = go (eqb x 0) refl
     go false e = sym (ne-eqb (x + y) 0 (λ (q : x + y ≡ 0). eqb-false x 0 e (omega arith)))
 
 abbrev rest : List ℕ → ℕ
-rest b = byteAt b 3 + (byteAt b 4 + (byteAt b 5 + (byteAt b 6 + byteAt b 7)))
+rest b = byteAt b 4 + (byteAt b 5 + (byteAt b 6 + byteAt b 7))
 
-below : (b : List ℕ) → ((k : ℕ) → Fits w8 (byteAt b k)) → (w : ℕ) (t : Bool) → w ≡ longAt b 0 → eqb (rest b) 0 ≡ t → ltb w 16777216 ≡ t
-unfolding longAt
-below b f w true p e = lt-ltb w 16777216 (omega (arith, eqb-true (rest b) 0 e, f 0 .fits, f 1 .fits, f 2 .fits))
-below b f w false p e = le-ltb w 16777216 (omega (arith, eqb-false (rest b) 0 e))
-
-pub free : (b : List ℕ) → ((k : ℕ) → Fits w8 (byteAt b k)) → (w : ℕ) → w ≡ longAt b 0 → ltb w 16777216 ≡ reservedZero b
+reserved : (b : List ℕ) → reservedZero b ≡ eqb (rest b) 0
 unfolding reservedZero isZero
-free b f w p =
-    below b f w _ p refl
-    ∙ sym (rw (
-      whole (eqb (byteAt b 7) 0),
-      sum-zero (byteAt b 6) (byteAt b 7),
-      sum-zero (byteAt b 5) _,
-      sum-zero (byteAt b 4) _,
-      sum-zero (byteAt b 3) _,
-    ) refl)
+reserved b = rw (whole (eqb (byteAt b 7) 0), sum-zero (byteAt b 6) (byteAt b 7), sum-zero (byteAt b 5) _, sum-zero (byteAt b 4) _) refl
+
+-- with the setting before them
+below : (b : List ℕ) → ((k : ℕ) → Fits w8 (byteAt b k)) → (w : ℕ) (u t : Bool) → w ≡ longAt b 0 → leb (byteAt b 3) 1 ≡ u
+    → eqb (rest b) 0 ≡ t → ltb w 33554432 ≡ pick u t false
+unfolding longAt
+below b f w true true p l e =
+    lt-ltb w 33554432 (omega (arith, leb-true (byteAt b 3) 1 l, eqb-true (rest b) 0 e, f 0 .fits, f 1 .fits, f 2 .fits))
+below b f w true false p l e = le-ltb w 33554432 (omega (arith, eqb-false (rest b) 0 e))
+below b f w false t p l e = le-ltb w 33554432 (omega (arith, leb-false (byteAt b 3) 1 l))
+
+pub rest-below : (b : List ℕ) → ((k : ℕ) → Fits w8 (byteAt b k)) → (w : ℕ) → w ≡ longAt b 0 → ltb w 33554432 ≡ restFits b
+unfolding restFits
+rest-below b f w p =
+    below b f w _ _ p refl refl ∙ ap (λ (t : Bool). pick (leb (byteAt b 3) 1) t false) (sym (reserved b))
 
 -- ---- one cell
 ascii-cell : (x : Cell) → x .base < 128 → x .mark ≡ 0 → x .tone ≡ 0 → isCell x ≡ true

@@ -1,6 +1,6 @@
 -- Document 01, "Port order": "the composition as bytes in an order that docs/ states". A head of 8 bytes: the settings
--- (method, mode), the count, and bytes kept for settings to come. Then the cells, of 8 bytes each: the base in four and the
--- mark in two, low byte first, the tone, the capital flag.
+-- (method, mode), the count, the setting of request 2026-01 (capitals), and bytes kept for settings to come. Then the cells, of
+-- 8 bytes each: the base in four and the mark in two, low byte first, the tone, the capital flag.
 use Prim.Native.Nat.{ℕ, zero, suc, _+_, _*_, _-_, _/_, _%_}
 use mathlib.Core.Bool.{Bool, false}
 use mathlib.Core.List.{List, [], _∷_, _++_}
@@ -22,7 +22,7 @@ head = 8
 
 -- how many bytes of the head say something; those from here on are reserved
 abbrev pub known : ℕ
-known = 3
+known = 4
 
 -- where the cell at place i starts
 abbrev pub start : ℕ → ℕ
@@ -53,7 +53,8 @@ cellsBytes [] = []
 cellsBytes (x ∷ xs) = cellBytes x ++ cellsBytes xs
 
 unfoldable pub headBytes : Composition → List ℕ
-headBytes c = methodByte (c .settings .method) ∷ modeByte (c .settings .mode) ∷ c .count ∷ zeros (head - known)
+headBytes c =
+    methodByte (c .settings .method) ∷ modeByte (c .settings .mode) ∷ c .count ∷ flagByte (c .settings .capitals) ∷ zeros (head - known)
 
 unfoldable pub bytesOf : Composition → List ℕ
 bytesOf c = headBytes c ++ cellsBytes (c .cells)
@@ -79,12 +80,13 @@ unfoldable pub modeOf : ℕ → Mode
 modeOf x = pick (eqb x 0) Vietnamese English
 
 abbrev pub settingsOf : List ℕ → Settings
-settingsOf b = record { method = methodOf (byteAt b 0); mode = modeOf (byteAt b 1) }
+settingsOf b = record { method = methodOf (byteAt b 0); mode = modeOf (byteAt b 1); capitals = eqb (byteAt b 3) 1 }
 
 unfoldable pub compositionOf : List ℕ → Composition
 compositionOf b = record { cells = cellsAt limit b head; settings = settingsOf b; count = byteAt b 2 }
 
--- ---- "Bytes of another length, or that spell no method, mode or cell, are not sound."
+-- ---- "Bytes of another length, or that spell no method, mode or cell, are not sound." Nor are those that spell capitals neither
+-- on nor off
 -- a flag that is neither on nor off spells no cell
 unfoldable pub spellsCell : List ℕ → ℕ → Bool
 spellsCell b i = leb (byteAt b (start i + 7)) 1
@@ -98,6 +100,7 @@ bytesSound b =
     pick (eqb (length b) size)
     (pick (leb (byteAt b 0) 1)
     (pick (leb (byteAt b 1) 1)
+    (pick (leb (byteAt b 3) 1)
     (pick (reservedZero b)
-    (pick (each (spellsCell b) (from limit 0)) (isSound (compositionOf b)) false) false) false) false)
+    (pick (each (spellsCell b) (from limit 0)) (isSound (compositionOf b)) false) false) false) false) false)
     false

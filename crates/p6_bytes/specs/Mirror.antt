@@ -4,12 +4,17 @@
 use Prim.Native.Nat.{ℕ, _+_, _-_}
 use mathlib.Core.Bool.{Bool, false}
 use mathlib.Core.List.{List, _++_}
+use lib.Dec.{leb}
 use lib.ListN.{take, drop, set}
 use Rattle.p0_choice.specs.Choice.{pick, each, from}
 use Rattle.p3_cells.specs.Cells.{isCell}
 use Rattle.p3_cells.specs.declared.Cell.{Cell}
-use Rattle.p6_zeros.specs.Zeros.{zeros}
-use Rattle.p6_bytes.specs.Bytes.{head, start, size, cellBytes, cellAt, spellsCell}
+use Rattle.p6_zeros.specs.Zeros.{zeros, byteAt}
+use Rattle.p6_bytes.specs.Bytes.{head, start, size, cellBytes, cellAt, spellsCell, reservedZero}
+
+-- what follows the count in the head: capitals are on or off, and the reserved bytes are 0
+unfoldable pub restFits : List ℕ → Bool
+restFits b = pick (leb (byteAt b 3) 1) (reservedZero b) false
 
 unfoldable pub cellFits : List ℕ → ℕ → Bool
 cellFits b i = pick (spellsCell b i) (isCell (cellAt b (start i))) false

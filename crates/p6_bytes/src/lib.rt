@@ -8,8 +8,8 @@ ghost use Rattle.p3_cells.specs.Cells.{limit};
 ghost use Rattle.p3_cells.specs.Mirror.{cellOf};
 ghost use Rattle.p3_cells.specs.Text.{shown as shownOf};
 ghost use Rattle.p6_bytes.specs.Bytes.{size, methodByte, modeByte, flagByte, cellBytes, cellAt};
-ghost use Rattle.p6_bytes.specs.Bytes.{methodOf, modeOf, compositionOf, reservedZero, bytesSound};
-ghost use Rattle.p6_bytes.specs.Mirror.{cellFits, cellsFit, stored, cleared};
+ghost use Rattle.p6_bytes.specs.Bytes.{methodOf, modeOf, compositionOf, bytesSound};
+ghost use Rattle.p6_bytes.specs.Mirror.{restFits, cellFits, cellsFit, stored, cleared};
 use p2_input_method::InputMethod;
 use p3_cells as cells;
 use p3_cells::Cell;
@@ -57,12 +57,13 @@ fn cell_at(b: &[u8], at: usize) -> Cell
 
 // ---- soundness
 
-// The bytes of the head that say nothing: as one number it is below 256 to the third, as three bytes say something.
-fn reserved_zero(b: &[u8]) -> bool
+// What follows the count in the head, capitals of 0 or 1 and zeros: as one number the head is below 2 times 256 to the third, as
+// three bytes stand before it.
+fn rest_fits(b: &[u8]) -> bool
     requires { ⌜ length (now b) ≡ size ⌝ }
-    ensures { λ r. ⌜ r ≡ reservedZero (now (b .entry)) ⌝ }
+    ensures { λ r. ⌜ r ≡ restFits (now (b .entry)) ⌝ }
 {
-    zeros::long_at(b, 0) < 16777216
+    zeros::long_at(b, 0) < 33554432
 }
 
 // Most cells are an ASCII letter alone, which one comparison tells. With an arm for each flag the cell is one load.
@@ -109,7 +110,7 @@ pub fn bytes_ok(b: &[u8]) -> bool
     if b.len() != SIZE {
         return false;
     }
-    if !reserved_zero(b) {
+    if !rest_fits(b) {
         return false;
     }
     if 1 < b[0] {
@@ -154,7 +155,18 @@ pub fn settings(b: &[u8]) -> Settings
 {
     let method = method_of(b[0]);
     let mode = mode_of(b[1]);
-    Settings { method, mode }
+    Settings {
+        method,
+        mode,
+        capitals: b[3] == 1,
+    }
+}
+
+pub fn capitals(b: &[u8]) -> bool
+    requires { ⌜ length (now b) ≡ size ⌝ }
+    ensures { λ r. ⌜ r ≡ compositionOf (now (b .entry)) .settings .capitals ⌝ }
+{
+    b[3] == 1
 }
 
 fn number(b: u8) -> u32
@@ -175,6 +187,13 @@ pub fn mode_number(b: &[u8]) -> u32
     ensures { λ r. ⌜ r ≡ modeByte (compositionOf (now (b .entry)) .settings .mode) ⌝ }
 {
     number(b[1])
+}
+
+pub fn capitals_number(b: &[u8]) -> u32
+    requires { ⌜ bytesSound (now b) ≡ true ⌝ }
+    ensures { λ r. ⌜ r ≡ flagByte (compositionOf (now (b .entry)) .settings .capitals) ⌝ }
+{
+    number(b[3])
 }
 
 pub fn cell_count(b: &[u8]) -> usize
@@ -226,15 +245,15 @@ pub fn store(b: &mut [u8], i: usize, x: Cell)
 }
 
 // Most cells have neither a tone nor a flag, which one comparison tells.
-pub fn shown(b: &[u8], i: usize) -> u32
+pub fn shown(b: &[u8], capitals: bool, i: usize) -> u32
     requires { ⌜ (length (now b) ≡ size) × (i < limit) ⌝ }
-    ensures { λ r. ⌜ r ≡ shownOf (cellOf (compositionOf (now (b .entry))) i) ⌝ }
+    ensures { λ r. ⌜ r ≡ shownOf capitals (cellOf (compositionOf (now (b .entry))) i) ⌝ }
 {
     let x = cell(b, i);
     if zeros::long_at(b, HEAD + 8 * i) < 281474976710656 {
         return cells::letter_of(x);
     }
-    cells::shown(x)
+    cells::shown(capitals, x)
 }
 
 // No cells: the count and the cells' bytes are 0.

@@ -17,7 +17,8 @@ use Rattle.p6_zeros.specs.Zeros.{zeros}
 use Rattle.p6_bytes.proofs.Round.{method-forth}
 use Rattle.p6_bytes.proofs.Sound.{sound-size}
 use Rattle.p6_bytes.proofs.Stored.{begun-bytes}
-use Rattle.p6_composition.specs.Calls.{answerOn, bytesOn, outOn, orUnsound, methodOn, modeOn, textOn, newOn, newBytes}
+use Rattle.p6_composition.specs.Calls.{answerOn, bytesOn, outOn, orUnsound, methodOn, modeOn, capitalsOn, textOn, newOn}
+use Rattle.p6_composition.specs.Calls.{newBytes}
 
 -- the test has let the bytes through
 pub ok-sound : (b : List ℕ) (v : Bool) → v ≡ bytesSound b → not v ≡ false → bytesSound b ≡ true
@@ -47,7 +48,7 @@ module _ (b : List ℕ) (n : ℕ) (v : Bool) (e : v ≡ bytesSound b) where
   unfolding textOn
   unsound-text t = rw (← e, not-true v t) refl
 
--- ---- methods and modes by their numbers
+-- ---- the settings by their numbers
 both-refuse : (s : Bool) → Refused Unsound ≡ pick s (Refused Unsound) (Refused Unsound)
 both-refuse true = refl
 both-refuse false = refl
@@ -76,6 +77,14 @@ module _ (b : List ℕ) (n : ℕ) (l : 1 < n) where
   pub no-mode-bytes : b ≡ bytesOn b (modeOn b n)
   unfolding modeOn
   no-mode-bytes = or-kept _
+
+  pub no-capitals : Refused Unsound ≡ answerOn b (capitalsOn b n)
+  unfolding capitalsOn
+  no-capitals = or-refused _
+
+  pub no-capitals-bytes : b ≡ bytesOn b (capitalsOn b n)
+  unfolding capitalsOn
+  no-capitals-bytes = or-kept _
 
 -- ---- a new composition
 one : (s : List ℕ) {a : ℕ} → 1 ≤ length s → take 1 (set s 0 a) ≡ a ∷ []

@@ -17,9 +17,9 @@ use Rattle.p0_refusals.specs.declared.Refusal.the-variants.{Foreign, Full, Shor
 use Rattle.p1_letters.specs.Alphabet.{inAlphabet}
 use Rattle.p3_cells.specs.Cells.{limit, blank, typed, isSound, used, composed}
 use Rattle.p3_cells.specs.Leaving.{refusing}
-use Rattle.p3_cells.specs.Text.{shown, textOf}
+use Rattle.p3_cells.specs.Text.{shown}
 use Rattle.p3_cells.specs.declared.After.{After}
-use Rattle.p3_cells.specs.Mirror.{cellOf, firstCells, withCell, withCount, withSettings, places}
+use Rattle.p3_cells.specs.Mirror.{cellOf, firstText, withCell, withCount, withSettings, places}
 use Rattle.p3_cells.specs.declared.Cell.{Cell}
 use Rattle.p3_cells.specs.declared.Composition.{Composition}
 use Rattle.p3_cells.specs.declared.Mode.the-variants.{Vietnamese, English}
@@ -27,33 +27,34 @@ use Rattle.p3_cells.proofs.Leaving.{leaving-refused, leaving-nothing}
 use Rattle.p3_cells.proofs.Text.{writtenTo, written-none, written-more}
 use Rattle.p3_calls.specs.Literal.{literal}
 use Rattle.p3_calls.specs.Output.{textOutcome, removalOutcome}
-use Rattle.p3_cells.specs.Settings.{withMethod, withMode}
-use Rattle.p3_calls.specs.Settings.{resetTo, methodSet, turned, enabledSet}
+use Rattle.p3_cells.specs.Settings.{withMethod, withMode, withCapitals}
+use Rattle.p3_calls.specs.Settings.{resetTo, methodSet, turned, enabledSet, capitalsSet}
 use Rattle.p3_calls.proofs.Literal.{literal-foreign, literal-full, literal-done, literal-appended}
 use Rattle.p3_calls.proofs.Output.{text-short, text-short-out, text-done, text-done-out, removal-empty, removal-empty-out, removal-short}
 use Rattle.p3_calls.proofs.Output.{removal-short-out, removal-done, removal-done-out}
-use Rattle.p3_calls.proofs.Settings.{set-done, turned-off, turned-on}
+use Rattle.p3_calls.proofs.Settings.{set-done, turned-off, turned-on, capitals-kept}
 use Rattle.p6_bytes.specs.Bytes.{size, bytesOf, compositionOf, methodOf, bytesSound}
 use Rattle.p6_zeros.specs.Zeros.{byteAt}
 use Rattle.p6_bytes.specs.Mirror.{stored, cleared}
-use Rattle.p6_bytes.proofs.Round.{read-written, method-forth}
+use Rattle.p6_bytes.proofs.Round.{read-written, method-forth, flag-forth}
 use Rattle.p6_bytes.proofs.Sound.{sound-size, sound-composition, sound-count}
-use Rattle.p6_bytes.proofs.Stored.{cells-all, cell-stored, count-stored, method-stored, mode-stored, cells-cleared, lent}
-use Rattle.p6_composition.specs.Calls.{answerOn, bytesOn, outOn, resetOn, literalOn, removalOn, orUnsound, methodOn, modeOn, textOn}
+use Rattle.p6_bytes.proofs.Stored.{cells-all, cell-stored, count-stored, method-stored, mode-stored, capitals-stored, cells-cleared, lent}
+use Rattle.p6_composition.specs.Calls.{answerOn, bytesOn, outOn, resetOn, literalOn, removalOn, orUnsound, methodOn, modeOn}
+use Rattle.p6_composition.specs.Calls.{capitalsOn, textOn}
 use Rattle.p6_composition.proofs.Calls.{ok-sound}
 
 -- ---- the loop of the text
 pub text-start : (b o : List ℕ) → o ≡ writtenTo (compositionOf b) 0 o
 text-start b o = written-none (compositionOf b) o
 
-pub text-on : (b o out : List ℕ) (i n v : ℕ) → out ≡ writtenTo (compositionOf b) i o → v ≡ shown (cellOf (compositionOf b) i)
-    → i < n → n ≤ limit → n ≤ length o
+pub text-on : (b o out : List ℕ) (k : Bool) (i n v : ℕ) → out ≡ writtenTo (compositionOf b) i o
+    → k ≡ compositionOf b .settings .capitals → v ≡ shown k (cellOf (compositionOf b) i) → i < n → n ≤ limit → n ≤ length o
     → set out i v ≡ writtenTo (compositionOf b) (i + 1) o
 unfolding writtenTo
-text-on b o out i n v e q h l m = written-more (withCount (compositionOf b) n) o out i v e q (cells-all b) h l m
+text-on b o out k i n v e g q h l m = written-more (withCount (compositionOf b) n) o out i v e (rw g at q) (cells-all b) h l m
 
 pub text-all : (b o out : List ℕ) (i n : ℕ) → out ≡ writtenTo (compositionOf b) i o → i ≤ n → n ≤ i
-    → out ≡ textOf (firstCells (compositionOf b) n) ++ drop n o
+    → out ≡ firstText (compositionOf b) n ++ drop n o
 unfolding writtenTo
 text-all b o out i n e l h = let z : i ≡ n = omega arith in rw z at e
 
@@ -78,9 +79,6 @@ module _ (b : List ℕ) (n : ℕ) (v : Bool) (p : n ≡ compositionOf b .count) 
 
 pub set-ok : (b : List ℕ) (i x : ℕ) (v : Bool) → v ≡ bytesSound b → not v ≡ false → length (set b i x) ≡ size
 set-ok b i x v e t = set-size b i x (sound-size b (ok-sound b v e t))
-
-pub same-size : (b s : List ℕ) (i x : ℕ) → length s ≡ size → length b ≡ size → length (set s i x) ≡ length b
-same-size b s i x l k = set-size s i x l ∙ sym k
 
 -- ---- what is told and left, where k is what the call by value leaves
 module _ (b : List ℕ) (s : bytesSound b ≡ true) (k : After) where
@@ -181,6 +179,25 @@ module _ (b : List ℕ) (v : Bool) (e : v ≡ bytesSound b) (t : not v ≡ false
       mode-cleared f new h = becomes b s (modeOn b n) _ 0 new english-leaves
           (h ∙ emptied f 1 n _ (mode-stored (compositionOf b) English n (omega arith)))
 
+    -- ---- capitals
+    capitals-leaves : record {
+      comp = withSettings (compositionOf b) (withCapitals (compositionOf b .settings) (eqb n 1));
+      answer = Done 0;
+    }
+        ≡ capitalsOn b n
+    unfolding capitalsOn orUnsound capitalsSet
+    capitals-leaves =
+        rw (le-leb n 1 l)
+        (leaving-nothing _ (compositionOf b) _ 0 _ (set-done (compositionOf b) true whole refl)
+        (capitals-kept (compositionOf b) true whole (eqb n 1) refl))
+
+    pub capitals-told : Done 0 ≡ answerOn b (capitalsOn b n)
+    capitals-told = told b s (capitalsOn b n) _ (Done 0) capitals-leaves
+
+    pub capitals-bytes : ((k : ℕ) → Fits w8 (byteAt b k)) → set b 3 n ≡ bytesOn b (capitalsOn b n)
+    capitals-bytes f = becomes b s (capitalsOn b n) _ 0 (set b 3 n) capitals-leaves
+        (ap (λ (x : List ℕ). set x 3 n) (sym (lent b f s)) ∙ capitals-stored (compositionOf b) (eqb n 1) n (sym (flag-forth n l)))
+
   -- ---- the literal
   module _ (ch : ℕ) (u : Bool) (a : u ≡ inAlphabet ch) where
     module _ (w : not u ≡ true) where
@@ -239,7 +256,7 @@ module _ (b : List ℕ) (v : Bool) (e : v ≡ bytesSound b) (t : not v ≡ false
     unfolding textOn
     text-told l = rw s (text-done (compositionOf b) true whole refl (length o) n (rw (← p) l) p)
 
-    pub text-written : (new : List ℕ) → n ≤ length o → new ≡ textOf (firstCells (compositionOf b) n) ++ drop n o
+    pub text-written : (new : List ℕ) → n ≤ length o → new ≡ firstText (compositionOf b) n ++ drop n o
         → new ≡ outOn b (textOutcome (compositionOf b)) o
     unfolding used
     text-written new l h = written b s _ o new (text-done-out (compositionOf b) true whole refl o new (rw (← p) l) (rw (← p) h))
@@ -299,7 +316,7 @@ module _ (b : List ℕ) (v : Bool) (e : v ≡ bytesSound b) (t : not v ≡ false
           now-is : compositionOf (set s1 2 (n - 1)) ≡ withCount (withCell (compositionOf b) (n - 1) x) (n - 1)
           now-is = ap compositionOf removal-bytes ∙ read-written _ (length-set (compositionOf b .cells) (n - 1) x ∙ cells-all b)
 
-          pub removal-written : (new : List ℕ) → new ≡ textOf (firstCells (compositionOf (set s1 2 (n - 1))) (n - 1)) ++ drop (n - 1) o
+          pub removal-written : (new : List ℕ) → new ≡ firstText (compositionOf (set s1 2 (n - 1))) (n - 1) ++ drop (n - 1) o
               → new ≡ outOn b (removalOutcome (compositionOf b)) o
           unfolding used
           removal-written new q =

@@ -12,7 +12,8 @@ use Rattle.p2_input_method.specs.declared.InputMethod.{InputMethod}
 use Rattle.p3_cells.specs.Cells.{isSound}
 use Rattle.p3_cells.specs.declared.After.{After}
 use Rattle.p3_cells.specs.declared.Composition.{Composition}
-use Rattle.p3_calls.proofs.Kept.{new-sound, reset-sound, set-method-sound, set-enabled-sound, literal-sound, removal-sound}
+use Rattle.p3_calls.proofs.Kept.{new-sound, reset-sound, set-method-sound, set-enabled-sound, set-capitals-sound}
+use Rattle.p3_calls.proofs.Kept.{literal-sound, removal-sound}
 use Rattle.p3_calls.specs.Settings.{created}
 use Rattle.p3_key.proofs.Kept.{key-sound}
 use Rattle.p3_undo.proofs.Kept.{undo-sound}
@@ -21,7 +22,7 @@ use Rattle.p6_bytes.proofs.Round.{written-sound}
 use Rattle.p6_bytes.proofs.Sound.{sound-composition}
 use Rattle.p6_composition.specs.UndoAnswer.{undoLeaving}
 use Rattle.p6_composition.specs.Calls.{answerOn, bytesAfter, bytesOn, keyOn, resetOn, literalOn, removalOn, undoOn, orUnsound}
-use Rattle.p6_composition.specs.Calls.{methodOn, modeOn, newOn, newBytes}
+use Rattle.p6_composition.specs.Calls.{methodOn, modeOn, capitalsOn, newOn, newBytes}
 
 after-sound : (a : Answer) (b : List ℕ) (d : Composition) → bytesSound b ≡ true → isSound d ≡ true → bytesSound (bytesAfter a b d) ≡ true
 after-sound (Done n) b d h s = written-sound d s
@@ -67,6 +68,10 @@ module _ (b : List ℕ) (h : bytesSound b ≡ true) where
   unfolding modeOn
   mode-step o = or-sound o _ (set-enabled-sound (compositionOf b) sound (eqb o 0))
 
+  pub capitals-step : (n : ℕ) → isSound (capitalsOn b n .comp) ≡ true
+  unfolding capitalsOn
+  capitals-step n = or-sound n _ (set-capitals-sound (compositionOf b) sound (eqb n 1))
+
   pub key-kept : (key : ℕ) (out : List ℕ) → bytesSound (bytesOn b (keyOn b key out)) ≡ true
   key-kept key out = on-sound (keyOn b key out) (key-step key out)
 
@@ -88,6 +93,9 @@ module _ (b : List ℕ) (h : bytesSound b ≡ true) where
   pub mode-kept : (o : ℕ) → bytesSound (bytesOn b (modeOn b o)) ≡ true
   mode-kept o = on-sound (modeOn b o) (mode-step o)
 
+  pub capitals-kept : (n : ℕ) → bytesSound (bytesOn b (capitalsOn b n)) ≡ true
+  capitals-kept n = on-sound (capitalsOn b n) (capitals-step n)
+
 pub new-made : (m : InputMethod) → bytesSound (bytesOf (created m)) ≡ true
 new-made m = written-sound (created m) (new-sound m)
 
@@ -107,6 +115,7 @@ pub data Leaves (b : List ℕ) : List ℕ → Type 0 where
   byReset : Leaves b (bytesOn b (resetOn b))
   byMethod : (m : ℕ) → Leaves b (bytesOn b (methodOn b m))
   byMode : (o : ℕ) → Leaves b (bytesOn b (modeOn b o))
+  byCapitals : (n : ℕ) → Leaves b (bytesOn b (capitalsOn b n))
 
 new-kept : (b : List ℕ) → bytesSound b ≡ true → (m : ℕ) → bytesSound (newBytes b m) ≡ true
 unfolding newBytes
@@ -127,3 +136,4 @@ calls-keep-sound b h (byUndo t raw) = undo-kept b h t raw
 calls-keep-sound b h byReset = reset-kept b h
 calls-keep-sound b h (byMethod m) = method-kept b h m
 calls-keep-sound b h (byMode o) = mode-kept b h o
+calls-keep-sound b h (byCapitals n) = capitals-kept b h n

@@ -16,9 +16,8 @@ use Rattle.p3_acts.specs.Mirror.{acts}
 use Rattle.p3_acts.proofs.Idle.{idle-step}
 use Rattle.p3_cells.specs.Cells.{limit, used}
 use Rattle.p3_cells.specs.Leaving.{leaving}
-use Rattle.p3_cells.specs.Mirror.{cellOf, firstCells, withCell, rowCells}
+use Rattle.p3_cells.specs.Mirror.{cellOf, firstCells, firstText, withCell, rowCells}
 use Rattle.p3_cells.specs.Row.{bases}
-use Rattle.p3_cells.specs.Text.{textOf}
 use Rattle.p3_cells.specs.declared.Cell.{Cell}
 use Rattle.p3_cells.specs.declared.Composition.{Composition}
 use Rattle.p3_cells.specs.declared.Mode.{Mode}
@@ -31,7 +30,7 @@ use Rattle.p3_key.specs.Process.{keyOutcome, keyed}
 use Rattle.p3_key.specs.Mirror.{letterFor, noStroke, wrote, wroteKey, passStroke, stepStroke, strokeOf}
 use Rattle.p3_key.specs.declared.Stroke.{Stroke}
 use Rattle.p3_key.proofs.Frame.{english-stays}
-use Rattle.p3_key.proofs.Letters.{lettersTo, no-letters-yet}
+use Rattle.p3_key.proofs.Letters.{letter-key, lettersTo, no-letters-yet}
 use Rattle.p3_key.proofs.Right.{stroked, Right, stroke-right, letters-vietnamese}
 use Rattle.p3_key.proofs.Strokes.{step-full, step-short, step-done, stroke-foreign, stroke-step, stroke-pass}
 use Rattle.p3_step.specs.Key.{keyCells}
@@ -92,17 +91,16 @@ vietnamese Vietnamese o p e = refl
 vietnamese English o p e = absurd (e p)
 
 -- ---- the letters
-one-letter : (key : ℕ) (cells : List Cell) (o : List ℕ) → 0 < length cells → 1 ≤ length o
-    → set o 0 key ≡ map (letterFor English key) (take 1 cells) ++ drop 1 o
-unfolding letterFor
-one-letter key [] o h l = absurd (omega arith)
-one-letter key (x ∷ xs) [] h l = absurd (omega arith)
-one-letter key (x ∷ xs) (y ∷ o) h l = refl
+one-letter : (z : Settings) (key : ℕ) (cells : List Cell) (o : List ℕ) → z .mode ≡ English → 0 < length cells → 1 ≤ length o
+    → set o 0 key ≡ map (letterFor z key) (take 1 cells) ++ drop 1 o
+one-letter z key [] o m h l = absurd (omega arith)
+one-letter z key (x ∷ xs) [] m h l = absurd (omega arith)
+one-letter z key (x ∷ xs) (y ∷ o) m h l = ap (λ (k : ℕ). k ∷ o) (letter-key z key x m)
 
-all-letters : (m : Mode) (key : ℕ) (c : Composition) (n : ℕ) (o : List ℕ) → m ≡ Vietnamese
-    → textOf (firstCells c n) ++ drop n o ≡ lettersTo m key c n o
+all-letters : (key : ℕ) (c : Composition) (n : ℕ) (o : List ℕ) → c .settings .mode ≡ Vietnamese
+    → firstText c n ++ drop n o ≡ lettersTo (c .settings) key c n o
 unfolding lettersTo
-all-letters m key c n o e = ap (λ (l : List ℕ). l ++ drop n o) (sym (letters-vietnamese m key (firstCells c n) e))
+all-letters key c n o e = ap (λ (l : List ℕ). l ++ drop n o) (sym (letters-vietnamese (c .settings) key (firstCells c n) e))
 
 -- ---- what is told and left, where the key's stroke is e
 module _ (b : List ℕ) (v : Bool) (e : v ≡ bytesSound b) (t : not v ≡ false) (key : ℕ) (o : List ℕ) where
@@ -128,13 +126,13 @@ module _ (b : List ℕ) (v : Bool) (e : v ≡ bytesSound b) (t : not v ≡ false
   refused-stays r q = rw (← refused-told r q) refl
 
   letters-out : (d : Stroke) (new : List ℕ) → IsStroke d
-      → new ≡ lettersTo (compositionOf b .settings .mode) key (stroked (compositionOf b) d key) (d .letters) o
+      → new ≡ lettersTo (compositionOf b .settings) key (stroked (compositionOf b) d key) (d .letters) o
       → new ≡ outOn b (keyOutcome (compositionOf b) key) o
   unfolding outOn
   letters-out d new q h = rw s (h ∙ right d q .out)
 
   refused-out : (r : Refusal) → IsStroke (noStroke r (compositionOf b .count)) → o ≡ outOn b (keyOutcome (compositionOf b) key) o
-  refused-out r q = letters-out (noStroke r (compositionOf b .count)) o q (no-letters-yet (compositionOf b .settings .mode) key _ o)
+  refused-out r q = letters-out (noStroke r (compositionOf b .count)) o q (no-letters-yet (compositionOf b .settings) key _ o)
 
   -- a refusal: nothing changes
   abbrev Refuses : Refusal → Type 0
@@ -180,8 +178,8 @@ module _ (b : List ℕ) (v : Bool) (e : v ≡ bytesSound b) (t : not v ≡ false
           pub pass-out : set o 0 key ≡ outOn b (keyOutcome (compositionOf b) key) o
           unfolding lettersTo
           pass-out = letters-out _ (set o 0 key) passes
-              (rw (still-same (compositionOf b) key (asciiLower key), english (compositionOf b .settings .mode) i h z)
-              (one-letter key (compositionOf b .cells) o (omega (arith, cells-all b)) l))
+              (rw (still-same (compositionOf b) key (asciiLower key))
+              (one-letter (compositionOf b .settings) key (compositionOf b .cells) o (english _ i h z) (omega (arith, cells-all b)) l))
 
       -- ---- Vietnamese
       module _ (z : i ≡ 1 → ⊥) (y : Settings) (k : ℕ) (r : Step) (g : y ≡ compositionOf b .settings) (x : k ≡ asciiLower key)
@@ -192,7 +190,8 @@ module _ (b : List ℕ) (v : Bool) (e : v ≡ bytesSound b) (t : not v ≡ false
         by-step : (d : Stroke) → d ≡ stepStroke r (compositionOf b .count) (length o) → IsStroke d
         by-step d j = stroke-step true _ _ key _ _ d u refl a k r w (vietnamese _ i h z) x step-is j
 
-        makes : Makes r (used (compositionOf b)) (keyCells (compositionOf b .settings) (used (compositionOf b)) key) key (asciiLower key)
+        makes : Makes (compositionOf b .settings) r (used (compositionOf b))
+            (keyCells (compositionOf b .settings) (used (compositionOf b)) key) key (asciiLower key)
         makes =
             rw (
               step-is,
@@ -251,22 +250,24 @@ module _ (b : List ℕ) (v : Bool) (e : v ≡ bytesSound b) (t : not v ≡ false
               unfolding stepped
               now-is = ap compositionOf stores ∙ read-written _ (rw (length-set, length-set) (cells-all b)) ∙ after-is
 
-              key-written : (text : List ℕ) → text ≡ textOf (firstCells (compositionOf new) (r .count)) ++ drop (r .count) o
+              key-written : (text : List ℕ) → text ≡ firstText (compositionOf new) (r .count) ++ drop (r .count) o
                   → text ≡ outOn b (keyOutcome (compositionOf b) key) o
+              unfolding stepped
               key-written text j =
                   letters-out (wrote r) text writes
-                  (j ∙ ap (λ (d : Composition). textOf (firstCells d (r .count)) ++ drop (r .count) o) now-is
-                  ∙ all-letters (compositionOf b .settings .mode) key _ (r .count) o (vietnamese _ i h z))
+                  (j ∙ ap (λ (d : Composition). firstText d (r .count) ++ drop (r .count) o) now-is
+                  ∙ all-letters key (stroked (compositionOf b) (wrote r) key) (r .count) o (vietnamese _ i h z))
 
-              pub done-key : (text : List ℕ) → text ≡ textOf (firstCells (compositionOf new) (r .count)) ++ drop (r .count) o
+              pub done-key : (text : List ℕ) → text ≡ firstText (compositionOf new) (r .count) ++ drop (r .count) o
                   → (Done (r .count) ≡ answerOn b (keyOn b key o)) × (new ≡ bytesOn b (keyOn b key o))
                   × (text ≡ outOn b (keyOutcome (compositionOf b) key) o)
               done-key text j = (key-told, key-stored, key-written text j)
 
 -- ---- the stores as the code makes them
-pub applied-is : (b s1 s2 : List ℕ) (r : Step) (key k : ℕ) (c1 c2 p1 p2 : Cell) → c1 ≡ cellOf (compositionOf b) (r .at)
-    → c2 ≡ cellOf (compositionOf b) (r .also) → p1 ≡ putCell (r .change) (r .mark) c1 c2 key k → p2 ≡ alsoCell (r .change) c2
+pub applied-is : (b s1 s2 : List ℕ) (r : Step) (key k : ℕ) (c1 c2 p1 p2 : Cell) (u : Bool) → c1 ≡ cellOf (compositionOf b) (r .at)
+    → c2 ≡ cellOf (compositionOf b) (r .also) → p1 ≡ putCell (r .change) (r .mark) c1 c2 key k → u ≡ compositionOf b .settings .capitals
+    → p2 ≡ alsoCell (r .change) u c2
     → s1 ≡ stored b (r .also) p2 → s2 ≡ stored s1 (r .at) p1
     → set s2 2 (r .count) ≡ applied b r key k
 unfolding applied
-applied-is b s1 s2 r key k c1 c2 p1 p2 e1 e2 e3 e4 e5 e6 = rw (e6, e5, e4, e3, e2, e1) refl
+applied-is b s1 s2 r key k c1 c2 p1 p2 u e1 e2 e3 e7 e4 e5 e6 = rw (e6, e5, e4, e7, e3, e2, e1) refl

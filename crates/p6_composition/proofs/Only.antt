@@ -33,5 +33,9 @@ set-method-only κs a = (tt, λ z z′ w w′ q q′. (alike (q .0) (q′ .0), �
 pub set-mode-only : OneAnswer own.set_mode.Kinds.ps own.set_mode.Kinds.r own.set_mode.Reads.Asked own.set_mode.Reads.Learnt
 set-mode-only κs a = (tt, λ z z′ w w′ q q′. (alike (q .0) (q′ .0), λ i. (alike (q .1) (q′ .1) i, (tt, tt))))
 
+pub set-capitals-only :
+    OneAnswer own.set_capitals.Kinds.ps own.set_capitals.Kinds.r own.set_capitals.Reads.Asked own.set_capitals.Reads.Learnt
+set-capitals-only κs a = (tt, λ z z′ w w′ q q′. (alike (q .0) (q′ .0), λ i. (alike (q .1) (q′ .1) i, (tt, tt))))
+
 pub new-only : OneAnswer own.new.Kinds.ps own.new.Kinds.r own.new.Reads.Asked own.new.Reads.Learnt
 new-only κs a = (tt, λ z z′ w w′ q q′. (alike (q .0) (q′ .0), λ i. (alike (q .1) (q′ .1) i, (tt, tt))))

@@ -15,7 +15,7 @@ use Rattle.p3_cells.specs.declared.Composition.{Composition}
 use Rattle.p3_key.specs.Process.{keyed}
 use Rattle.p3_calls.specs.Literal.{literal}
 use Rattle.p3_calls.specs.Output.{textOutcome, removed}
-use Rattle.p3_calls.specs.Settings.{created, resetTo, methodSet, enabledSet}
+use Rattle.p3_calls.specs.Settings.{created, resetTo, methodSet, enabledSet, capitalsSet}
 use Rattle.p3_undo.specs.Call.{undoTelex}
 use Rattle.p6_bytes.specs.Bytes.{size, bytesOf, compositionOf, methodOf, bytesSound}
 use Rattle.p6_composition.specs.UndoAnswer.{undoLeaving}
@@ -51,7 +51,7 @@ removalOn b out = removed (compositionOf b) (length out)
 unfoldable pub undoOn : List ℕ → ℕ → List ℕ → After
 undoOn b trigger raw = undoLeaving (undoTelex (compositionOf b) trigger raw)
 
--- A number that is no method, or no mode, is refused as bytes that spell none are.
+-- A number that is no method, no mode, or neither on nor off is refused as bytes that spell none are.
 unfoldable pub orUnsound : List ℕ → ℕ → After → After
 orUnsound b n k = pick (leb n 1) k (refusing (compositionOf b) Unsound)
 
@@ -61,6 +61,10 @@ methodOn b method = orUnsound b method (methodSet (compositionOf b) (methodOf me
 -- 0 is Vietnamese
 unfoldable pub modeOn : List ℕ → ℕ → After
 modeOn b mode = orUnsound b mode (enabledSet (compositionOf b) (eqb mode 0))
+
+-- 2026-01: 1 is on
+unfoldable pub capitalsOn : List ℕ → ℕ → After
+capitalsOn b on = orUnsound b on (capitalsSet (compositionOf b) (eqb on 1))
 
 -- ---- the text, which changes nothing
 unfoldable pub textOn : List ℕ → ℕ → Answer

@@ -7,9 +7,8 @@ ghost use Prim.Native.Nat.{_<_, _≤_};
 ghost use lib.ListN.{length, take, drop};
 ghost use Rattle.p3_calls.specs.Output.{textOutcome, removalOutcome};
 ghost use Rattle.p3_cells.specs.Cells.{limit, used};
-ghost use Rattle.p3_cells.specs.Mirror.{firstCells, rowCells};
+ghost use Rattle.p3_cells.specs.Mirror.{firstCells, firstText, rowCells};
 ghost use Rattle.p3_cells.specs.Row.{bases};
-ghost use Rattle.p3_cells.specs.Text.{textOf};
 ghost use Rattle.p3_step.specs.Mirror.{stepOf};
 ghost use Rattle.p3_key.specs.Process.{keyOutcome};
 ghost use Rattle.p3_undo.specs.Mirror.{signs};
@@ -19,7 +18,7 @@ ghost use Rattle.p6_bytes.specs.Bytes.{size, compositionOf, methodOf, bytesSoun
 ghost use Rattle.p6_composition.specs.Mirror.{applied, foundOn};
 ghost use Rattle.p6_composition.specs.UndoAnswer.{undoAnswer};
 ghost use Rattle.p6_composition.specs.Calls.{answerOn, bytesOn, outOn, keyOn, resetOn, literalOn, removalOn, undoOn};
-ghost use Rattle.p6_composition.specs.Calls.{methodOn, modeOn, textOn, newOn, newBytes};
+ghost use Rattle.p6_composition.specs.Calls.{methodOn, modeOn, capitalsOn, textOn, newOn, newBytes};
 use p0_refusals::Answer;
 use p0_refusals::LETTERS;
 use p0_refusals::Refusal;
@@ -40,11 +39,12 @@ use p6_zeros as zeros;
 // The text of the first n cells, from the start of an output that has room for it.
 fn text(b: &[u8], n: usize, out: &mut [u32])
     requires { ⌜ (length (now b) ≡ size) × (n ≤ limit) × (n ≤ length (now out)) ⌝ }
-    ensures { λ _. ⌜ now (out .exit) ≡ textOf (firstCells (compositionOf (now (b .entry))) n) ++ drop n (now (out .entry)) ⌝ }
+    ensures { λ _. ⌜ now (out .exit) ≡ firstText (compositionOf (now (b .entry))) n ++ drop n (now (out .entry)) ⌝ }
 {
+    let capitals = bytes::capitals(b);
     let mut i: usize = 0;
     while i < n {
-        out[i] = bytes::shown(b, i);
+        out[i] = bytes::shown(b, capitals, i);
         i += 1;
     }
 }
@@ -92,13 +92,14 @@ fn apply(b: &mut [u8], s: Step, key: u32, k: u32)
     let change = s.change;
     let i = s.at;
     let j = s.also;
+    let count = s.count as u8;
     let x = bytes::cell(b, i);
     let y = bytes::cell(b, j);
     let p = step::put_cell(change, s.mark, x, y, key, k);
-    let q = step::also_cell(change, y);
+    let q = step::also_cell(change, bytes::capitals(b), y);
     bytes::store(b, j, q);
     bytes::store(b, i, p);
-    b[2] = s.count as u8;
+    b[2] = count;
 }
 
 pub fn process_key(state: &mut [u8], key: u32, out: &mut [u32]) -> Answer
@@ -290,7 +291,7 @@ pub fn undo_telex_transform(state: &mut [u8], trigger: u32, raw: &[u32]) -> Answ
     undo_found(state, bytes::cell_count(state), raw, t)
 }
 
-// ---- methods and modes by their numbers
+// ---- the settings by their numbers
 
 pub fn method_of(method: u32) -> InputMethod
     ensures { λ r. ⌜ r ≡ methodOf method ⌝ }
@@ -334,7 +335,22 @@ pub fn set_mode(state: &mut [u8], mode: u32) -> Answer
     Answer::Done(0)
 }
 
-// An empty Vietnamese composition, whatever the bytes were.
+// 1 turns capitals on, and 0 off: no cell changes.
+pub fn set_capitals(state: &mut [u8], on: u32) -> Answer
+    ensures { λ r. ⌜ (r ≡ answerOn (now (state .entry)) (capitalsOn (now (state .entry)) on))
+        × (now (state .exit) ≡ bytesOn (now (state .entry)) (capitalsOn (now (state .entry)) on)) ⌝ }
+{
+    if !bytes::bytes_ok(state) {
+        return Answer::Refused(Refusal::Unsound);
+    }
+    if 1 < on {
+        return Answer::Refused(Refusal::Unsound);
+    }
+    state[3] = on as u8;
+    Answer::Done(0)
+}
+
+// An empty Vietnamese composition, capitals off, whatever the bytes were.
 pub fn new(state: &mut [u8], method: u32) -> Answer
     ensures { λ r. ⌜ (r ≡ newOn (now (state .entry)) method) × (now (state .exit) ≡ newBytes (now (state .entry)) method) ⌝ }
 {

@@ -16,7 +16,8 @@ use Rattle.p3_cells.specs.declared.After.{After}
 use Rattle.p4_spelling.specs.Answers.{cutAnswer, verdictAnswer}
 use Rattle.p5_utf8_text.specs.Read.{reading}
 use Rattle.p5_utf8_text.specs.Write.{writing}
-use Rattle.p6_composition.specs.Calls.{answerOn, bytesOn, keyOn, resetOn, literalOn, removalOn, undoOn, methodOn, modeOn, textOn}
+use Rattle.p6_composition.specs.Calls.{answerOn, bytesOn, keyOn, resetOn, literalOn, removalOn, undoOn, methodOn, modeOn, capitalsOn}
+use Rattle.p6_composition.specs.Calls.{textOn}
 use Rattle.p6_host.specs.Counts.{countOut}
 use Rattle.p6_host.proofs.Refused.{letter-kept, tone-kept, method-key-kept, mark-kept, sound-kept, onset-kept, vowels-kept}
 use Rattle.p6_host.proofs.Refused.{verdict-kept, count-kept, behaviour-kept, output-kept, bytes-kept, new-kept, text-out-kept}
@@ -104,6 +105,9 @@ method-keeps κs a z w q h = lent-number (a .0) (a .1 .0) (sound-kept _ _ (a .0 
 pub mode-keeps : Keeps composition.pasdrongel_mode.Kinds.ps composition.pasdrongel_mode.Reads.Learnt (λ κs a. a)
 mode-keeps κs a z w q h = lent-number (a .0) (a .1 .0) (sound-kept _ _ (a .0 .now)) q h
 
+pub capitals-keeps : Keeps composition.pasdrongel_capitals.Kinds.ps composition.pasdrongel_capitals.Reads.Learnt (λ κs a. a)
+capitals-keeps κs a z w q h = lent-number (a .0) (a .1 .0) (sound-kept _ _ (a .0 .now)) q h
+
 pub count-keeps : Keeps composition.pasdrongel_count.Kinds.ps composition.pasdrongel_count.Reads.Learnt (λ κs a. a)
 count-keeps κs a z w q h = lent-number (a .0) (a .1 .0) (sound-kept _ _ (a .0 .now)) q h
 
@@ -170,6 +174,9 @@ set-method-keeps κs a z w q h = lent-bytes (a .0) (a .1) (methodOn (a .0 .now) 
 
 pub set-mode-keeps : Keeps composition.pasdrongel_set_mode.Kinds.ps composition.pasdrongel_set_mode.Reads.Learnt (λ κs a. a)
 set-mode-keeps κs a z w q h = lent-bytes (a .0) (a .1) (modeOn (a .0 .now) (a .1 .0)) q h
+
+pub set-capitals-keeps : Keeps composition.pasdrongel_set_capitals.Kinds.ps composition.pasdrongel_set_capitals.Reads.Learnt (λ κs a. a)
+set-capitals-keeps κs a z w q h = lent-bytes (a .0) (a .1) (capitalsOn (a .0 .now) (a .1 .0)) q h
 
 -- ---- bytes and a number
 pub undo-keeps : Keeps composition.pasdrongel_undo.Kinds.ps composition.pasdrongel_undo.Reads.Learnt (λ κs a. a)

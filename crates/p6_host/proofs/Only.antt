@@ -12,6 +12,7 @@ use Rattle.p6_host.proofs.composition.pasdrongel_new as new
 use Rattle.p6_host.proofs.composition.pasdrongel_check_composition as check-composition
 use Rattle.p6_host.proofs.composition.pasdrongel_method as method
 use Rattle.p6_host.proofs.composition.pasdrongel_mode as mode
+use Rattle.p6_host.proofs.composition.pasdrongel_capitals as capitals
 use Rattle.p6_host.proofs.composition.pasdrongel_count as count
 use Rattle.p6_host.proofs.composition.pasdrongel_key as key
 use Rattle.p6_host.proofs.composition.pasdrongel_text as text
@@ -21,6 +22,7 @@ use Rattle.p6_host.proofs.composition.pasdrongel_undo as undo
 use Rattle.p6_host.proofs.composition.pasdrongel_reset as reset
 use Rattle.p6_host.proofs.composition.pasdrongel_set_method as set-method
 use Rattle.p6_host.proofs.composition.pasdrongel_set_mode as set-mode
+use Rattle.p6_host.proofs.composition.pasdrongel_set_capitals as set-capitals
 use Rattle.p6_host.proofs.input_method.pasdrongel_is_tone_key as is-tone-key
 use Rattle.p6_host.proofs.input_method.pasdrongel_is_horn_key as is-horn-key
 use Rattle.p6_host.proofs.input_method.pasdrongel_mark_for as mark-for
@@ -102,6 +104,9 @@ method-only κs a = (tt, one-lent)
 pub mode-only : OneAnswer mode.Kinds.ps mode.Kinds.r mode.Reads.Asked mode.Reads.Learnt
 mode-only κs a = (tt, one-lent)
 
+pub capitals-only : OneAnswer capitals.Kinds.ps capitals.Kinds.r capitals.Reads.Asked capitals.Reads.Learnt
+capitals-only κs a = (tt, one-lent)
+
 pub count-only : OneAnswer count.Kinds.ps count.Kinds.r count.Reads.Asked count.Reads.Learnt
 count-only κs a = (tt, one-lent)
 
@@ -176,6 +181,9 @@ set-method-only κs a = (tt, bytes-lent)
 
 pub set-mode-only : OneAnswer set-mode.Kinds.ps set-mode.Kinds.r set-mode.Reads.Asked set-mode.Reads.Learnt
 set-mode-only κs a = (tt, bytes-lent)
+
+pub set-capitals-only : OneAnswer set-capitals.Kinds.ps set-capitals.Kinds.r set-capitals.Reads.Asked set-capitals.Reads.Learnt
+set-capitals-only κs a = (tt, bytes-lent)
 
 pub reset-only : OneAnswer reset.Kinds.ps reset.Kinds.r reset.Reads.Asked reset.Reads.Learnt
 reset-only κs a = (tt, λ z z′ w w′ q q′. (agree (q .0) (q′ .0), λ i. (agree (q .1) (q′ .1) i, tt)))

@@ -4,9 +4,9 @@ ghost use lib.ListN.{length};
 ghost use Rattle.p0_refusals.specs.Answers.{refusalOf};
 ghost use Rattle.p3_calls.specs.Output.{textOutcome, removalOutcome};
 ghost use Rattle.p3_key.specs.Process.{keyOutcome};
-ghost use Rattle.p6_bytes.specs.Bytes.{size, methodByte, modeByte, compositionOf};
+ghost use Rattle.p6_bytes.specs.Bytes.{size, methodByte, modeByte, flagByte, compositionOf};
 ghost use Rattle.p6_composition.specs.Calls.{answerOn, bytesOn, outOn, keyOn, resetOn, literalOn, removalOn, undoOn, methodOn, modeOn};
-ghost use Rattle.p6_composition.specs.Calls.{textOn, newOn, newBytes};
+ghost use Rattle.p6_composition.specs.Calls.{capitalsOn, textOn, newOn, newBytes};
 ghost use Rattle.p6_host.specs.Counts.{countOut, behaviourOut};
 ghost use Rattle.p6_host.specs.CompositionCalls.{soundCode, soundOut};
 use crate::answers::tell;
@@ -65,6 +65,19 @@ pub extern "C" fn pasdrongel_mode(state: &[u8], mode: &mut u32) -> u32
         return number(Refusal::Unsound);
     }
     *mode = p6_bytes::mode_number(state);
+    0
+}
+
+#[no_mangle]
+pub extern "C" fn pasdrongel_capitals(state: &[u8], on: &mut u32) -> u32
+    ensures { λ r. ⌜ (r ≡ soundCode (now (state .entry)))
+        × (now (on .exit) ≡ soundOut (now (state .entry)) (flagByte (compositionOf (now (state .entry)) .settings .capitals))
+        (now (on .entry))) ⌝ }
+{
+    if !p6_bytes::bytes_ok(state) {
+        return number(Refusal::Unsound);
+    }
+    *on = p6_bytes::capitals_number(state);
     0
 }
 
@@ -175,5 +188,14 @@ pub extern "C" fn pasdrongel_set_mode(state: &mut [u8], mode: u32) -> u32
     ensures { λ r. ⌜ now (state .exit) ≡ bytesOn (now (state .entry)) (modeOn (now (state .entry)) mode) ⌝ }
 {
     let given = p6_composition::set_mode(state, mode);
+    refusal_of(given)
+}
+
+#[no_mangle]
+pub extern "C" fn pasdrongel_set_capitals(state: &mut [u8], on: u32) -> u32
+    ensures { λ r. ⌜ r ≡ refusalOf (answerOn (now (state .entry)) (capitalsOn (now (state .entry)) on)) ⌝ }
+    ensures { λ r. ⌜ now (state .exit) ≡ bytesOn (now (state .entry)) (capitalsOn (now (state .entry)) on) ⌝ }
+{
+    let given = p6_composition::set_capitals(state, on);
     refusal_of(given)
 }

@@ -1,4 +1,4 @@
--- The examples hold: one claim over the whole table, which antt computes.
+-- The examples hold: one claim over each table, which antt computes.
 use lib.Dec.{T}
 use Rattle.p0_choice.specs.Choice.{each}
 use Rattle.p0_choice.specs.Text as ChoiceText
@@ -16,6 +16,7 @@ use Rattle.p3_marks.specs.Mark as MarksMark
 use Rattle.p3_cells.specs.Leaving as CellsLeaving
 use Rattle.p3_step.specs.Key as KeyKey
 use Rattle.p3_key.specs.Process as KeyProcess
+use Rattle.p3_calls.specs.Output as CallsOutput
 use Rattle.p3_calls.specs.Settings as CallsSettings
 use Rattle.p3_undo.specs.Raw as UndoRaw
 use Rattle.p3_undo.specs.Undo as UndoUndo
@@ -24,10 +25,11 @@ use Rattle.p4_rows.specs.Rows as RowsRows
 use Rattle.p4_rows.specs.Lookup as RowsLookup
 use Rattle.p4_spelling.specs.Cut as SpellingCut
 use Rattle.p4_spelling.specs.Verdict as SpellingVerdict
-use Rattle.p7_examples.specs.Examples.{press, pressAll, holds, examples}
+use Rattle.p7_examples.specs.Examples.{press, pressAll, wroteText, holds, examples, capitalExamples}
 
-pub examples-hold : T (each holds examples)
-unfolding press pressAll holds examples RefusalsAnswers.content RefusalsAnswers.answer RefusalsAnswers.output CellsLeaving.leaving
+both-hold : T (each holds examples) × T (each holds capitalExamples)
+unfolding press pressAll wroteText holds examples capitalExamples RefusalsAnswers.content RefusalsAnswers.answer
+    RefusalsAnswers.output CellsLeaving.leaving CallsOutput.textOutcome CallsSettings.settled CallsSettings.capitalsSet
     KeyProcess.nextCells KeyProcess.writtenFor KeyProcess.isFull KeyProcess.keyOutcome KeyProcess.keyNext KeyProcess.keyed ChoiceText.word
     ChoiceText.wordsFrom ChoiceText.words LettersAlphabet.smallBy32 LettersAlphabet.smallBy1 LettersAlphabet.smallHigh
     LettersAlphabet.smallNext LettersAlphabet.isSmall LettersAlphabet.isAsciiCapital LettersAlphabet.isCapital LettersAlphabet.inAlphabet
@@ -37,7 +39,8 @@ unfolding press pressAll holds examples RefusalsAnswers.content RefusalsAnswers.
     InputMethodRules.toneKeys InputMethodRules.isToneKey InputMethodRules.markRule InputMethodRules.markRules InputMethodRules.markIn
     InputMethodRules.markFor InputMethodRules.isHornKey CellsCells.isBlank CellsCells.marks CellsCells.tones CellsCells.markFits
     CellsCells.toneFits CellsCells.isCell CellsCells.fitsAt CellsCells.isSound CellsCells.typed CellsCells.used CellsCells.composed
-    CellsText.letterOf CellsText.tonedLetter CellsText.shown CellsText.textOf PlacePlace.lowLetter PlacePlace.lowBase PlacePlace.anyVowel
+    CellsText.letterOf CellsText.tonedLetter CellsText.flagged CellsText.shown CellsText.textOf
+    PlacePlace.lowLetter PlacePlace.lowBase PlacePlace.anyVowel
     PlacePlace.separates PlacePlace.anySeparates PlacePlace.lastSyllable PlacePlace.syllableStart PlacePlace.vowelPlaces PlacePlace.pairIn
     PlacePlace.glidingPair PlacePlace.glides PlacePlace.risingPair PlacePlace.kept PlacePlace.rises PlacePlace.chosen PlacePlace.placeOf
     PlacePlace.tonePlace MarksUo.baseAt MarksUo.uoBack MarksUo.uoPlace MarksUo.hornU MarksUo.hornO MarksUo.uoMade MarksUa.afterQ
@@ -52,4 +55,10 @@ unfolding press pressAll holds examples RefusalsAnswers.content RefusalsAnswers.
     SpellingCut.vowelsEnd SpellingCut.onsetOf SpellingCut.vowelsOf SpellingCut.codaOf SpellingVerdict.hasForeign SpellingVerdict.inRowsIfAny
     SpellingVerdict.onsetFits SpellingVerdict.codaFits SpellingVerdict.partsFit SpellingVerdict.fits SpellingVerdict.lowered
     SpellingVerdict.toneless SpellingVerdict.verdict
-examples-hold = tt
+both-hold = (tt, tt)
+
+pub examples-hold : T (each holds examples)
+examples-hold = both-hold .0
+
+pub capital-examples-hold : T (each holds capitalExamples)
+capital-examples-hold = both-hold .1

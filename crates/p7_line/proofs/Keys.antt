@@ -100,13 +100,13 @@ module _ (s o : List ℕ) (g : Answer) (e : g ≡ answer (reading s) (length o))
     pub keys-letters : allLetters keys ≡ true
     keys-letters = rw k (read-small s (take n out) (read-done n out q f) .1)
 
-    keys-typed : lineOut m s ≡ madeLine (keysMade (atFirst m) [] keys)
+    keys-typed : lineOut m s ≡ madeLine (atFirst m) (keysMade (atFirst m) [] keys)
     unfolding lineOut keysLine
     keys-typed = rw (read-done n out q f, k) refl
 
-    pub typed-line-end : (e at : ℕ) → e ≡ at + length (madeLine (keysMade (atFirst m) [] keys)) → e ≡ at + length (lineOut m s)
+    pub typed-line-end : (e at : ℕ) → e ≡ at + length (madeLine (atFirst m) (keysMade (atFirst m) [] keys)) → e ≡ at + length (lineOut m s)
     typed-line-end e at h = rw keys-typed h
 
-    pub typed-line-out : (e at : ℕ) (o1 o2 : List ℕ) → o2 ≡ take at o1 ++ (madeLine (keysMade (atFirst m) [] keys) ++ drop e o1)
+    pub typed-line-out : (e at : ℕ) (o1 o2 : List ℕ) → o2 ≡ take at o1 ++ (madeLine (atFirst m) (keysMade (atFirst m) [] keys) ++ drop e o1)
         → o2 ≡ take at o1 ++ (lineOut m s ++ drop e o1)
     typed-line-out e at o1 o2 h = rw keys-typed h

@@ -6,7 +6,7 @@ use mathlib.Core.List.{List, [], _∷_}
 use native.Mathlib.Omega.{arith}
 use native.Mathlib.Numerals.{add-one}
 use lib.Dec.{ltb}
-use lib.ListN.{length, getD, take, drop, drop-of-length-le, length-map}
+use lib.ListN.{length, getD, take, drop, drop-of-length-le}
 use lib.Seq.{drop-cons, take-at}
 use borrow.Author.Tests.{lt-ltb, le-ltb, ltb-true, ltb-false}
 use Rattle.p0_choice.specs.Choice.{pick}
@@ -17,7 +17,7 @@ use Rattle.p0_refusals.specs.declared.Refusal.the-variants.{Full}
 use Rattle.p1_letters.specs.Alphabet.{inAlphabet, allLetters}
 use Rattle.p2_input_method.specs.declared.InputMethod.{InputMethod}
 use Rattle.p3_cells.specs.Cells.{limit, isSound, used, composed, holding}
-use Rattle.p3_cells.specs.Text.{shown, textOf}
+use Rattle.p3_cells.specs.Text.{textOf}
 use Rattle.p3_cells.specs.Leaving.{leaving}
 use Rattle.p3_cells.specs.declared.Composition.{Composition}
 use Rattle.p3_cells.specs.declared.Mode.{Mode}
@@ -35,30 +35,31 @@ use Rattle.p3_key.proofs.Kept.{key-sound}
 use Rattle.p5_utf8_text.proofs.Alphabet.{all-at}
 use Rattle.p7_line.specs.Line.{made, full, keysMade, madeLine, refusedLine, textLine}
 use Rattle.p3_cells.proofs.InAlphabet.{text-letters}
+use Rattle.p3_cells.proofs.Text.{text-length}
 
 -- ---- one key, on a sound Vietnamese composition with a place lent for each cell
 module _ (c : Composition) (k : ℕ) (o : List ℕ) (s : isSound c ≡ true) (v : c .settings .mode ≡ Vietnamese)
     (a : inAlphabet k ≡ true) (l : length o ≡ limit) where
-  text-long : length (textOf (nextCells c k)) ≡ length (nextCells c k)
-  unfolding textOf
-  text-long = length-map (nextCells c k) shown
+  -- the text of the cells after it
+  abbrev next : List ℕ
+  next = textOf (c .settings .capitals) (nextCells c k)
 
   -- what there is to write
-  outcome : keyOutcome c k ≡ pick (ltb limit (length (nextCells c k))) (refuses Full) (writes (textOf (nextCells c k)))
+  outcome : keyOutcome c k ≡ pick (ltb limit (length (nextCells c k))) (refuses Full) (writes next)
   unfolding keyOutcome isFull writtenFor
   outcome =
       rw (s, a)
       (ap (λ (x : Mode). pick (inMode x (ltb limit (length (nextCells c k))) false) (refuses Full)
-      (writes (inMode x (textOf (nextCells c k)) (k ∷ [])))) v)
+      (writes (inMode x next (k ∷ [])))) v)
 
   full-key : limit < length (nextCells c k) → keyOutcome c k ≡ refuses Full
   full-key h = outcome ∙ rw (lt-ltb limit (length (nextCells c k)) h) refl
 
-  done-key : length (nextCells c k) ≤ limit → keyOutcome c k ≡ writes (textOf (nextCells c k))
+  done-key : length (nextCells c k) ≤ limit → keyOutcome c k ≡ writes next
   done-key h = outcome ∙ rw (le-ltb limit (length (nextCells c k)) h) refl
 
-  room : length (nextCells c k) ≤ limit → length (textOf (nextCells c k)) ≤ length o
-  room h = rw text-long (omega arith)
+  room : length (nextCells c k) ≤ limit → length next ≤ length o
+  room h = omega (arith, text-length (c .settings .capitals) (nextCells c k))
 
   -- 2, and nothing else
   key-full : (r : Refusal) → answer (keyOutcome c k) (length o) ≡ Refused r → (limit < length (nextCells c k)) × (r ≡ Full)
@@ -71,7 +72,7 @@ module _ (c : Composition) (k : ℕ) (o : List ℕ) (s : isSound c ≡ true) (v 
           (h, cc)
       go false e =
           let h = ltb-false limit (length (nextCells c k)) e in
-          let w : Done (length (textOf (nextCells c k))) ≡ Refused r = writes-answer _ _ (done-key h) (length o) _ (room h) refl ∙ q in
+          let w : Done (length next) ≡ Refused r = writes-answer _ _ (done-key h) (length o) _ (room h) refl ∙ q in
           let z : _≡_ {A = ℕ} 0 1 = cc in absurd (omega arith)
 
   module _ (n : ℕ) (q : answer (keyOutcome c k) (length o) ≡ Done n) where
@@ -84,9 +85,9 @@ module _ (c : Composition) (k : ℕ) (o : List ℕ) (s : isSound c ≡ true) (v 
             let z : _≡_ {A = ℕ} 0 1 = cc in absurd (omega arith)
         go false e = ltb-false limit (length (nextCells c k)) e
 
-    key-count : length (textOf (nextCells c k)) ≡ n
+    key-count : length next ≡ n
     key-count =
-        let w : Done (length (textOf (nextCells c k))) ≡ Done n =
+        let w : Done (length next) ≡ Done n =
         writes-answer _ _ (done-key key-done) (length o) _ (room key-done) refl ∙ q in
         cc
 
@@ -94,10 +95,10 @@ module _ (c : Composition) (k : ℕ) (o : List ℕ) (s : isSound c ≡ true) (v 
     unfolding keyed leaving keyNext
     key-comp = rw q (ap (λ (x : Mode). inMode x (holding c (nextCells c k)) c) v)
 
-    key-text : take n (output (keyOutcome c k) o) ≡ textOf (nextCells c k)
+    key-text : take n (output (keyOutcome c k) o) ≡ next
     key-text =
         rw (← writes-output _ _ (done-key key-done) o _ (room key-done) refl)
-        (take-at (textOf (nextCells c k)) (drop (length (textOf (nextCells c k))) o) n key-count)
+        (take-at next (drop (length next) o) n key-count)
 
 -- ---- the line
 pub record Typing (z : Settings) (keys : List ℕ) (c : Composition) (text : List ℕ) (n i : ℕ) : Type 0 where
@@ -105,7 +106,7 @@ pub record Typing (z : Settings) (keys : List ℕ) (c : Composition) (text : Lis
   pub settings : c .settings ≡ z
   pub mode : z .mode ≡ Vietnamese
   pub rest : keysMade z [] keys ≡ keysMade z (used c) (drop i keys)
-  pub shown : take n text ≡ textOf (used c)
+  pub shown : take n text ≡ textOf (z .capitals) (used c)
 
 typing-start : (m : InputMethod) (keys text : List ℕ) → Typing (atFirst m) keys (created m) text 0 0
 unfolding created composed used textOf
@@ -153,7 +154,7 @@ module _ (z : Settings) (keys : List ℕ) (c : Composition) (text : List ℕ) (n
           settings = ap (λ (d : Composition). d .settings) b ∙ settings-held (c .settings) (nextCells c k) ∙ t .settings;
           mode = t .mode;
           rest = turn ∙ rw (le-ltb limit (length (nextCells c k)) w, u) refl;
-          shown = rw (f, u) (key-text c k text (t .sound) mode letter l j g);
+          shown = rw (f, u, ← t .settings) (key-text c k text (t .sound) mode letter l j g);
         }
 
 -- ---- what the line prints; the composition began as c₀, new with the method
@@ -169,20 +170,19 @@ module _ (m : InputMethod) (keys : List ℕ) (c₀ : Composition) (e : c₀ ≡ 
   module _ (c : Composition) (text : List ℕ) (n i : ℕ) (t : Typing (c₀ .settings) keys c text n i) where
     pub line-refused : allLetters keys ≡ true → i < length keys → length text ≡ limit → (k : ℕ) → k ≡ getD keys i 0
         → (y : After) (r : Refusal) → y ≡ keyed c k (length text)
-        → y .answer ≡ Refused r → madeLine (keysMade (atFirst m) [] keys) ≡ refusedLine r
+        → y .answer ≡ Refused r → madeLine (atFirst m) (keysMade (atFirst m) [] keys) ≡ refusedLine r
     unfolding madeLine
     line-refused a h l k q y r d f =
         let w = typing-full (c₀ .settings) keys c text n i t a h l k q y r d f in
         rw (← begun, w .0, w .1) refl
 
-    pub line-typed : length keys ≤ i → madeLine (keysMade (atFirst m) [] keys) ≡ textLine (take n text)
+    pub line-typed : length keys ≤ i → madeLine (atFirst m) (keysMade (atFirst m) [] keys) ≡ textLine (take n text)
     unfolding madeLine
     line-typed h = rw (← begun, typing-done (c₀ .settings) keys c text n i t h, t .shown) refl
 
     pub text-fits : (length (take n text) ≤ limit) × (allLetters (take n text) ≡ true)
-    unfolding textOf
     text-fits =
         let u = used-length c (t .sound) in
         let f = count-fits c (t .sound) in
-        let g : length (take n text) ≡ length (used c) = ap length (t .shown) ∙ length-map (used c) shown in
-        (omega arith, ap allLetters (t .shown) ∙ text-letters (used c) (used-cells c (t .sound)))
+        let g : length (take n text) ≡ length (used c) = ap length (t .shown) ∙ text-length (c₀ .settings .capitals) (used c) in
+        (omega arith, ap allLetters (t .shown) ∙ text-letters (c₀ .settings .capitals) (used c) (used-cells c (t .sound)))

@@ -52,13 +52,13 @@ unfoldable pub keysMade : Settings → List Cell → List ℕ → KeysMade
 keysMade z cs [] = made cs
 keysMade z cs (k ∷ ks) = pick (ltb limit (length (keyCells z cs k))) full (keysMade z (keyCells z cs k) ks)
 
-unfoldable pub madeLine : KeysMade → List ℕ
-madeLine (made cs) = textLine (textOf cs)
-madeLine full = refusedLine Full
+unfoldable pub madeLine : Settings → KeysMade → List ℕ
+madeLine z (made cs) = textLine (textOf (z .capitals) cs)
+madeLine z full = refusedLine Full
 
 -- the bytes of a line are keys; the refusals of reading them go before 2
 unfoldable pub keysLine : InputMethod → Outcome → List ℕ
-keysLine m (writes ks) = madeLine (keysMade (atFirst m) [] ks)
+keysLine m (writes ks) = madeLine (atFirst m) (keysMade (atFirst m) [] ks)
 keysLine m (refuses r) = refusedLine r
 
 unfoldable pub lineOut : InputMethod → List ℕ → List ℕ

@@ -128,9 +128,9 @@ fn text_line(text: &[u32], out: &mut [u8], at: usize) -> usize
 // Keys on a fresh composition: its text with the verdict, or the refusal of the first append that finds all cells used.
 fn keys_line(m: InputMethod, keys: &[u32], out: &mut [u8], at: usize) -> usize
     requires { ⌜ (allLetters (now keys) ≡ true) × (at + lineRoom ≤ length (now out)) ⌝ }
-    ensures { λ r. ⌜ (r ≡ at + length (madeLine (keysMade (atFirst m) [] (now (keys .entry))))) × (r ≤ at + lineRoom)
+    ensures { λ r. ⌜ (r ≡ at + length (madeLine (atFirst m) (keysMade (atFirst m) [] (now (keys .entry))))) × (r ≤ at + lineRoom)
         × (now (out .exit) ≡ take at (now (out .entry))
-        ++ (madeLine (keysMade (atFirst m) [] (now (keys .entry))) ++ drop r (now (out .entry)))) ⌝ }
+        ++ (madeLine (atFirst m) (keysMade (atFirst m) [] (now (keys .entry))) ++ drop r (now (out .entry)))) ⌝ }
 {
     let mut c = p3_calls::new(m);
     let mut text = [0u32; LIMIT];

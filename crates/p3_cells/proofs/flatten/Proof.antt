@@ -8,10 +8,10 @@ use Rattle.p3_cells.proofs.flatten.Statement.{statement}
 use Rattle.p3_cells.proofs.flatten.Tie as tie
 
 abbrev Inv-loop : tie.InvT-loop
-Inv-loop out₀ c n i₀ out i = (i ≤ n) × (length out ≡ length out₀) × (out ≡ writtenTo c i out₀)
+Inv-loop out₀ c n capitals i₀ out i = (i ≤ n) × (length out ≡ length out₀) × (out ≡ writtenTo c i out₀)
 
 abbrev μ-loop : tie.MeasureT-loop
-μ-loop out₀ c n i₀ out i = n - i
+μ-loop out₀ c n capitals i₀ out i = n - i
 
 ruleset answers = (needs, written-none, written-more, written-all, length-under, refl)
 

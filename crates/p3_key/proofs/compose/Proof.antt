@@ -29,11 +29,11 @@ abbrev μ-loop2 : tie.MeasureT-loop2
 μ-loop2 key out trusted c n used bases faults₀ i₀ faults i = limit - i
 
 abbrev Inv-loop3 : tie.InvT-loop3
-Inv-loop3 key out₀ trusted c n used faults i sound o e at also count j₀ out j =
-    (j ≤ count) × (length out ≡ length out₀) × (out ≡ lettersTo o key c j out₀)
+Inv-loop3 key out₀ trusted c n used faults i sound e at also w count j₀ out j =
+    (j ≤ count) × (length out ≡ length out₀) × (out ≡ lettersTo w key c j out₀)
 
 abbrev μ-loop3 : tie.MeasureT-loop3
-μ-loop3 key out₀ trusted c n used faults i sound o e at also count j₀ out j = count - j
+μ-loop3 key out₀ trusted c n used faults i sound e at also w count j₀ out j = count - j
 
 long : (c : tie.Start Inv-loop μ-loop Inv-loop2 μ-loop2 Inv-loop3 μ-loop3) → places (c .args .t1) ≡ limit
 long c = search length-under
@@ -71,7 +71,7 @@ compose-spec =
     (λ c. search needs)
     (λ c.
     let loop = c .before .before .before in
-    let also = loop .before in
+    let also = loop .before .before in
     let put = also .before in
     let stroke = put .before .before .before .before .before in
     let start = stroke .before .before .before .before .before .before .before .before .before .before .before in (
@@ -84,7 +84,7 @@ compose-spec =
     (λ c. search needs)
     -- the return
     (λ c.
-    let also = c .before .before in
+    let also = c .before .before .before in
     let put = also .before in
     let lower = put .before in
     let stroke = lower .before .before .before .before in

@@ -1,0 +1,4 @@
+pub mod Off
+pub mod Unicode
+pub mod Setting
+pub mod Apart

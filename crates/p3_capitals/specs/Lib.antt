@@ -1,0 +1,3 @@
+pub mod Port
+pub mod Unicode
+pub mod Apart
