@@ -11,6 +11,9 @@ mod host {
         pub fn pasdrongel_reset(state: *mut u8, size: usize) -> u32;
         pub fn pasdrongel_key(
             state: *mut u8, size: usize, key: u32, text: *mut u32, room: usize, count: *mut usize) -> u32;
+        pub fn pasdrongel_write_draft(
+            state: *const u8, size: usize, draft: *mut u8, room: usize, count: *mut usize) -> u32;
+        pub fn pasdrongel_read_draft(draft: *const u8, length: usize, state: *mut u8, size: usize) -> u32;
         pub fn pasdrongel_cut(word: *const u32, length: usize, onset: *mut usize, vowels: *mut usize) -> u32;
         pub fn pasdrongel_verdict(word: *const u32, length: usize, yes: *mut u32) -> u32;
         pub fn pasdrongel_word(number: usize, word: *mut u32, room: usize, count: *mut usize) -> u32;
@@ -87,6 +90,19 @@ fn typed_on(state: &mut State, keys: &[u32], text: &mut [u32]) -> usize {
 
 pub fn reset(state: &mut State) {
     assert_eq!(unsafe { host::pasdrongel_reset(state.as_mut_ptr(), STATE) }, 0);
+}
+
+/// How many bytes of a draft were written; `None` for a refusal.
+pub fn write_draft(state: &State, out: &mut [u8]) -> Option<usize> {
+    let (mut count, room) = (0, out.len());
+    let refusal = unsafe { host::pasdrongel_write_draft(state.as_ptr(), STATE, out.as_mut_ptr(), room, &mut count) };
+    (refusal == 0).then_some(count)
+}
+
+/// Whether the bytes are a draft; `state` is then its composition.
+pub fn read_draft(draft: &[u8], state: &mut State) -> bool {
+    let refusal = unsafe { host::pasdrongel_read_draft(draft.as_ptr(), draft.len(), state.as_mut_ptr(), STATE) };
+    refusal == 0
 }
 
 /// Whether the word is accepted.

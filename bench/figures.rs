@@ -1,8 +1,8 @@
 //! What is timed: ours, the Rust's, and for a key the floor, each over the whole note. A side answers how many units it
 //! did.
 
-use crate::calls::{self, Typist};
-use crate::note::{Habit, Note, ROOM};
+use crate::calls::{self, State, Typist};
+use crate::note::{Habit, Note, DRAFTED, ROOM};
 use std::hint::black_box;
 
 pub type Side = fn(&mut Note) -> usize;
@@ -58,6 +58,10 @@ pub const FIGURES: &[Figure] = &[
         ours: key_capitals, rust: engine!(key_capitals), floor: Some(floor_capitals) },
     Figure { name: "reset", what: "C call reset, after a copy of the bytes", unit: "word",
         ours: reset, rust: None, floor: Some(copy) },
+    Figure { name: "write-draft", what: "C call, a draft of 10 cells written", unit: "cell",
+        ours: write_draft, rust: None, floor: None },
+    Figure { name: "read-draft", what: "C call, a draft of 10 cells read", unit: "cell",
+        ours: read_draft, rust: None, floor: None },
     Figure { name: "verdict", what: "verdict", unit: "word",
         ours: verdict, rust: engine!(verdict), floor: None },
     Figure { name: "cut", what: "cut", unit: "word",
@@ -144,6 +148,25 @@ fn copy(note: &mut Note) -> usize {
         black_box(&black_box(*state));
     }
     note.states.len()
+}
+
+// Drafts.
+
+fn write_draft(note: &mut Note) -> usize {
+    for half in &note.halves {
+        black_box(calls::write_draft(&half.state, &mut note.bytes));
+        black_box(&note.bytes);
+    }
+    DRAFTED * note.halves.len()
+}
+
+fn read_draft(note: &mut Note) -> usize {
+    let mut state = [0; size_of::<State>()];
+    for half in &note.halves {
+        black_box(calls::read_draft(&half.draft, &mut state));
+        black_box(&state);
+    }
+    DRAFTED * note.halves.len()
 }
 
 // Words.

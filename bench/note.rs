@@ -8,6 +8,10 @@ pub const RESET: u32 = 0x0a;
 /// More letters than a text can have.
 pub const ROOM: usize = 64;
 
+/// How many cells the drafts have that are timed, and how many bytes they have then.
+pub const DRAFTED: usize = 10;
+const DRAFT: usize = 15 + 7 * DRAFTED;
+
 /// The keys, with a RESET wherever a host of this habit starts a fresh composition.
 pub struct Habit {
     pub keys: Vec<u32>,
@@ -38,6 +42,12 @@ impl Text {
     }
 }
 
+/// A composition of DRAFTED cells, as a note is left half typed, and its draft.
+pub struct Half {
+    pub state: State,
+    pub draft: Vec<u8>,
+}
+
 pub struct Note {
     /// A fresh composition after each space and each line.
     pub space: Habit,
@@ -49,6 +59,8 @@ pub struct Note {
     pub capitals: Habit,
     /// The composition after each word, as bytes.
     pub states: Vec<State>,
+    /// The compositions half typed, from each word of a line on.
+    pub halves: Vec<Half>,
     /// The words that the keys make, without digits and points.
     pub words: Vec<Text>,
     /// The lines that the keys make, each word composed by itself.
@@ -74,6 +86,7 @@ impl Note {
             line: Habit::new(keys),
             one: Habit::new(reset_when_full(text)),
             states: text.split_whitespace().map(state_of).collect(),
+            halves: text.lines().flat_map(halves).collect(),
             words,
             lines,
             letters: [0; 256],
@@ -86,7 +99,7 @@ impl Note {
 
     /// The sides do the same: after every key of every habit they have the same text, and no key is refused; and they
     /// judge and cut every word alike. With capitals on the text has the same letters but for their case, and where no
-    /// key is a small letter, the capital of each.
+    /// key is a small letter, the capital of each. What is read of a draft is the composition that it was written of.
     pub fn check(&mut self) {
         for habit in [&self.space, &self.line, &self.one, &self.capitals] {
             for keys in habit.keys.split(|&key| key == RESET) {
@@ -103,6 +116,11 @@ impl Note {
                     }
                 }
             }
+        }
+        for state in self.states.iter().chain(self.halves.iter().map(|half| &half.state)) {
+            let mut read = [u8::MAX; size_of::<State>()];
+            assert!(calls::read_draft(&draft_of(state), &mut read), "what was written is a draft");
+            assert_eq!(read, *state);
         }
         #[cfg(engine)]
         for Text { letters, text } in &self.words {
@@ -125,12 +143,31 @@ fn text_of(keys: &[u32], typist: Typist) -> Option<String> {
     (refused == 0).then(|| letters.map(letter).collect())
 }
 
-/// The composition that a word's keys leave, as bytes.
-fn state_of(word: &str) -> State {
+/// The composition that keys leave, as bytes.
+fn state_of(keys: &str) -> State {
     let mut state = [0; size_of::<State>()];
-    let keys: Vec<u32> = word.chars().map(u32::from).collect();
+    let keys: Vec<u32> = keys.chars().map(u32::from).collect();
     assert_eq!(calls::host_typed(&mut state, &keys, &mut [0; ROOM]), 0, "no key of the note is refused");
     state
+}
+
+fn draft_of(state: &State) -> Vec<u8> {
+    let mut draft = [0; 256];
+    let count = calls::write_draft(state, &mut draft).expect("there is room for a draft");
+    draft[..count].to_vec()
+}
+
+/// The compositions half typed, from each word of the line on that has as many cells after it.
+fn halves(line: &str) -> Vec<Half> {
+    let words = line.char_indices().map(|(at, _)| at).filter(|&at| at == 0 || line[..at].ends_with(' '));
+    words.filter_map(|at| half(&line[at..])).collect()
+}
+
+/// The last of the compositions of DRAFTED cells that the keys go through.
+fn half(keys: &str) -> Option<Half> {
+    let ends = keys.char_indices().map(|(at, key)| at + key.len_utf8());
+    let halves = ends.map(|end| state_of(&keys[..end])).map(|state| Half { draft: draft_of(&state), state });
+    halves.filter(|half| half.draft.len() == DRAFT).last()
 }
 
 /// The text of a line, each word composed by itself.

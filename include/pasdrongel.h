@@ -1,5 +1,5 @@
-/* pasdrongel.h: a Vietnamese input composer for a host in C: letters, input methods, compositions, the speller, the list
- * of all accepted syllables, and UTF-8.
+/* pasdrongel.h: a Vietnamese input composer for a host in C: letters, input methods, compositions, drafts of them for
+ * keeping, the speller, the list of all accepted syllables, and UTF-8.
  *
  * tools/install-host builds the library, to be linked statically or shared, with a file for pkg-config and with this header
  * as the page pasdrongel(3).
@@ -22,7 +22,7 @@ extern "C" {
 
 /* The version of this header, and its three parts in one number. */
 #define PASDRONGEL_VERSION_MAJOR 0
-#define PASDRONGEL_VERSION_MINOR 3
+#define PASDRONGEL_VERSION_MINOR 4
 #define PASDRONGEL_VERSION_PATCH 0
 #define PASDRONGEL_VERSION \
     (PASDRONGEL_VERSION_MAJOR * 1000000 + PASDRONGEL_VERSION_MINOR * 1000 + PASDRONGEL_VERSION_PATCH)
@@ -51,7 +51,7 @@ extern "C" {
 /* The call is done. */
 #define PASDRONGEL_DONE 0
 
-/* Refusals. Where several hold, a call gives the first of 10, 6, 8 or 1, then 2, 4, 5 or 7, last 3. */
+/* Refusals. Where several hold, a call gives the first of 10, 11, 6, 8 or 1, then 2, 4, 5 or 7, last 3. */
 
 /* A code point is no letter. */
 #define PASDRONGEL_REFUSED_FOREIGN 1
@@ -73,6 +73,8 @@ extern "C" {
 #define PASDRONGEL_REFUSED_NO_METHOD 9
 /* The composition is not sound. */
 #define PASDRONGEL_REFUSED_UNSOUND 10
+/* The bytes are not the draft of a sound composition. */
+#define PASDRONGEL_REFUSED_NO_DRAFT 11
 
 /* Limits, and outputs that always suffice. */
 
@@ -85,6 +87,8 @@ extern "C" {
 #define PASDRONGEL_CELLS 32
 /* With this many letters of room the calls that write a composition's text never refuse by 3. */
 #define PASDRONGEL_TEXT_ROOM 32
+/* With this many bytes of room pasdrongel_write_draft never refuses by 3. */
+#define PASDRONGEL_DRAFT_ROOM 239
 /* With this many letters of room the calls that write a listed word never refuse by 3. */
 #define PASDRONGEL_LISTED_ROOM 8
 /* With this many letters of room pasdrongel_read_utf8 never refuses by 3. */
@@ -250,6 +254,21 @@ uint32_t pasdrongel_set_mode(uint8_t *state, size_t size, uint32_t mode);
  * capital to a horn (pasdrongel_key) does not get it back. A capital whose mark pasdrongel_undo takes back is a plain
  * capital under both. Refuses by 10 also if `on` is neither. */
 uint32_t pasdrongel_set_capitals(uint8_t *state, size_t size, uint32_t on);
+
+/* Drafts. A draft is a composition as bytes for keeping, in a file or on a line to another machine: its method, mode, cells
+ * and setting of capitals, as tagged fields. What the bytes say is stated in docs/DRAFTS.md, and a later version of the
+ * library reads them as this one does. A sound composition has one draft, of 15 bytes and 7 for each cell in use. */
+
+/* Writes the draft of a composition, from the start of `draft`, which has room for `room` bytes, and their number to
+ * `*count`. Refuses by 3 if `room` is less than the bytes. `draft` may be NULL if `room` is 0. `state`, `draft` and `count`
+ * lie apart. */
+uint32_t pasdrongel_write_draft(const uint8_t *state, size_t size, uint8_t *draft, size_t room, size_t *count);
+
+/* Makes `state` the composition whose draft these `length` bytes are, whatever it was: what stands there is not looked at,
+ * and need not be sound. Refuses by 10 if `size` is not PASDRONGEL_COMPOSITION_BYTES, by 11 if the bytes are no draft: cut
+ * short, with a byte too many, with another field, tag or length, or of a composition that is not sound. `draft` may be
+ * NULL if `length` is 0, and is then refused. `draft` and `state` lie apart. */
+uint32_t pasdrongel_read_draft(const uint8_t *draft, size_t length, uint8_t *state, size_t size);
 
 /* The speller. A word has `length` letters. Refuses by 6 if `length` is over PASDRONGEL_WORD_LETTERS, by 1 if a code point
  * among them is no letter. */

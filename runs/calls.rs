@@ -38,6 +38,9 @@ pub mod host {
         pub fn pasdrongel_set_method(state: *mut u8, size: usize, method: u32) -> u32;
         pub fn pasdrongel_set_mode(state: *mut u8, size: usize, mode: u32) -> u32;
         pub fn pasdrongel_set_capitals(state: *mut u8, size: usize, on: u32) -> u32;
+        pub fn pasdrongel_write_draft(
+            state: *const u8, size: usize, draft: *mut u8, room: usize, count: *mut usize) -> u32;
+        pub fn pasdrongel_read_draft(draft: *const u8, length: usize, state: *mut u8, size: usize) -> u32;
         pub fn pasdrongel_cut(word: *const u32, length: usize, onset: *mut usize, vowels: *mut usize) -> u32;
         pub fn pasdrongel_verdict(word: *const u32, length: usize, yes: *mut u32) -> u32;
         pub fn pasdrongel_total(total: *mut usize) -> u32;

@@ -9,6 +9,8 @@ mod input_method {
 mod calls;
 mod composer;
 mod composition;
+mod draft;
+mod drafts;
 mod engine;
 mod fixed;
 mod letters;
@@ -31,7 +33,7 @@ pub struct Subject {
     fixed: fn() -> Vec<String>,
 }
 
-/// Every subject, in document 01's port order.
+/// Every subject, in document 01's port order, and then those of document 02's requests.
 const SUBJECTS: &[Subject] = &[
     Subject { name: "letters", calls: letters::CALLS, compare: letters::compare, fixed: letters::fixed },
     Subject { name: "methods", calls: methods::CALLS, compare: methods::compare, fixed: methods::fixed },
@@ -39,6 +41,7 @@ const SUBJECTS: &[Subject] = &[
     Subject { name: "spelling", calls: spelling::CALLS, compare: spelling::compare, fixed: spelling::fixed },
     Subject { name: "lister", calls: lister::CALLS, compare: lister::compare, fixed: lister::fixed },
     Subject { name: "utf8", calls: utf8::CALLS, compare: utf8::compare, fixed: utf8::fixed },
+    Subject { name: "drafts", calls: drafts::CALLS, compare: drafts::compare, fixed: drafts::fixed },
 ];
 
 fn main() -> ExitCode {

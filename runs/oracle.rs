@@ -13,6 +13,7 @@ pub const LONG: u32 = 6;
 pub const NO_WORD: u32 = 7;
 pub const MALFORMED: u32 = 8;
 pub const UNSOUND: u32 = 10;
+pub const NO_DRAFT: u32 = 11;
 
 pub const WORD_LETTERS: usize = 64;
 pub const LINE_BYTES: usize = 256;

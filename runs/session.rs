@@ -1,45 +1,59 @@
-//! The composer's fixed list. Each line is a session: calls one after another on one composition, the answer of the last of
-//! them, and the composition after it. tests/fixed/README.md has the form.
+//! Sessions, and the composer's fixed list, which they make. Each line is a session: calls one after another on one composition,
+//! the answer of the last of them, and the composition after it. tests/fixed/README.md has the form.
 
+use crate::calls::GUARD_BYTE;
 use crate::composer::{codes, handed, odd_cells, plain, random_composition, random_key};
-use crate::composition::{Call, Composition, Left, Oracle, CELLS, HEAD, ROOM, SIZE};
+use crate::composition::{Call, Composition, Oracle, CELLS, HEAD, ROOM, SIZE};
+use crate::draft;
 use crate::engine::bamboo::spy::Cell;
 use crate::engine::bamboo::Mode;
 use crate::engine::spelling;
-use crate::fixed::{bracketed, refused};
+use crate::fixed::{bracketed, byte, refused, spaced};
 use crate::input_method::InputMethod::{self, Telex, Vni};
 use crate::oracle::TONE_KEYS;
 use crate::report::Random;
 
-/// A line in the making: its calls so far, the keys that are still to be written among them, and what the last one left.
-struct Session {
+/// A line in the making: its calls so far, the keys that are still to be written among them, and the answer of the last one.
+pub struct Session {
     oracle: Oracle,
     room: usize,
+    draft_room: usize,
     bytes: Vec<u8>,
     calls: Vec<String>,
     pressed: Vec<u32>,
-    last: Option<(&'static str, Left)>,
+    last: Option<Result<String, u32>>,
 }
 
 impl Session {
-    fn new(method: InputMethod) -> Session {
+    pub fn new(method: InputMethod) -> Session {
         Session::on(&Composition::new(method), if method == Telex { "telex" } else { "vni" }.to_string())
     }
 
     /// A composition that the line hands in, cell by cell.
-    fn handed(composition: &Composition) -> Session {
+    pub fn handed(composition: &Composition) -> Session {
         Session::on(composition, format!("handed {composition:?} ;"))
     }
 
     fn on(composition: &Composition, start: String) -> Session {
-        let bytes = composition.bytes().to_vec();
-        Session { oracle: Oracle::new(), room: ROOM, bytes, calls: vec![start], pressed: Vec::new(), last: None }
+        Session { bytes: composition.bytes().to_vec(), calls: vec![start], ..Session::unmade() }
+    }
+
+    /// Bytes of no meaning.
+    pub fn unmade() -> Session {
+        let (bytes, calls, pressed) = (vec![GUARD_BYTE; SIZE], Vec::new(), Vec::new());
+        Session { oracle: Oracle::new(), room: ROOM, draft_room: draft::MOST, bytes, calls, pressed, last: None }
     }
 
     fn call(&mut self, call: Call) {
         let left = self.oracle.left(&self.bytes, call);
         self.bytes = left.bytes().to_vec();
-        self.last = Some((call.name(), left));
+        self.last = Some(match (left.refusal(), left.text(), left.number()) {
+            (0, Some(text), _) => Ok(bracketed(text)),
+            (0, None, Some(behaviour)) if call.name() == "undo" => Ok(["append", "consume"][behaviour].to_string()),
+            (0, None, Some(number)) => Ok(number.to_string()),
+            (0, None, None) => Ok("done".to_string()),
+            (refusal, ..) => Err(refusal),
+        });
     }
 
     fn say(&mut self, words: String) {
@@ -57,12 +71,12 @@ impl Session {
         self
     }
 
-    fn typed(self, keys: &str) -> Session {
+    pub fn typed(self, keys: &str) -> Session {
         self.keys(&codes(keys))
     }
 
     /// A call by its name and its numbers; the rooms are those of the session.
-    fn named(mut self, call: Call) -> Session {
+    pub fn named(mut self, call: Call) -> Session {
         let call = match call {
             Call::Text(_) => Call::Text(self.room),
             Call::RemoveLast(_) => Call::RemoveLast(self.room),
@@ -80,40 +94,55 @@ impl Session {
         self.named(Call::Undo(trigger.into(), &codes(raw)))
     }
 
+    pub fn write_draft(mut self) -> Session {
+        let written = draft::written(&self.bytes, self.draft_room);
+        self.last = Some(written.map(|draft| format!("{} ;", spaced(draft.into_iter(), byte))));
+        self.say("write_draft".to_string());
+        self
+    }
+
+    pub fn read_draft(mut self, draft: &[u8]) -> Session {
+        let found = draft::found(self.bytes.len(), draft);
+        if let Ok(composition) = &found {
+            self.bytes = composition.bytes().to_vec();
+        }
+        self.last = Some(found.map(|_| "done".to_string()));
+        self.say(format!("read_draft {} ;", spaced(draft.iter().copied(), byte)));
+        self
+    }
+
     /// The room of every output from here on.
-    fn room(mut self, room: usize) -> Session {
-        self.room = room;
+    pub fn room(mut self, room: usize) -> Session {
+        (self.room, self.draft_room) = (room, room);
         self.say(format!("room {room}"));
         self
     }
 
-    fn poke(mut self, place: usize, value: u8) -> Session {
+    pub fn poke(mut self, place: usize, value: u8) -> Session {
         self.bytes[place] = value;
         self.say(format!("poke {place} {value}"));
         self
     }
 
     /// Bytes of another length from here on: cut off, or blank ones more.
-    fn length(mut self, length: usize) -> Session {
+    pub fn length(mut self, length: usize) -> Session {
         self.bytes.resize(length, 0);
         self.say(format!("length {length}"));
         self
     }
 
-    fn line(mut self) -> String {
+    /// The composition's bytes as they stand.
+    pub fn bytes(&self) -> &[u8] {
+        &self.bytes
+    }
+
+    pub fn line(mut self) -> String {
         self.say("=".to_string());
-        let (name, last) = self.last.expect("a session has a call");
-        let answer = match (last.refusal(), last.text(), last.number()) {
-            (0, Some(text), _) => bracketed(text),
-            (0, None, Some(behaviour)) if name == "undo" => ["append", "consume"][behaviour].to_string(),
-            (0, None, Some(number)) => number.to_string(),
-            (0, None, None) => "done".to_string(),
-            (refusal, ..) => refused(refusal),
-        };
         let calls = self.calls.join(" ");
-        match Composition::read(last.bytes()) {
-            Some(composition) if last.refusal() == 0 => format!("session {calls} {answer} / {composition:?}"),
-            _ => format!("session {calls} {answer}"),
+        let composition = || Composition::read(&self.bytes).expect("a call that is done leaves a sound composition");
+        match self.last.expect("a session has a call") {
+            Ok(answer) => format!("session {calls} {answer} / {:?}", composition()),
+            Err(refusal) => format!("session {calls} {}", refused(refusal)),
         }
     }
 }
@@ -144,18 +173,20 @@ fn typed_on(method: InputMethod, keys: &str) -> String {
     on(method).typed(keys).line()
 }
 
-fn on(method: InputMethod) -> Session {
+/// A new composition with capitals on.
+pub fn on(method: InputMethod) -> Session {
     Session::new(method).named(Call::SetCapitals(1))
 }
 
+/// The Telex keys of "Examples to hold it to" in document 01.
+pub const EXAMPLES: [&str; 17] = [
+    "dad", "osaf", "uosw", "uows", "AAN", "quar", "gif", "quow", "quaw", "xuaw", "a.s", "abbbbw", "abbbbbw", "uobbbbw",
+    "uobbbbbw", "uaw", "qu",
+];
+
 /// "Examples to hold it to" of document 01.
 fn examples() -> Vec<String> {
-    let mut lines: Vec<String> = [
-        "dad", "osaf", "uosw", "uows", "AAN", "quar", "gif", "quow", "quaw", "xuaw", "a.s", "abbbbw", "abbbbbw", "uobbbbw",
-        "uobbbbbw", "uaw", "qu",
-    ]
-    .map(|keys| typed(Telex, keys))
-    .to_vec();
+    let mut lines: Vec<String> = EXAMPLES.map(|keys| typed(Telex, keys)).to_vec();
     lines.push(typed(Vni, "pha6n 2"));
     lines.push(typed(Telex, &"b".repeat(CELLS)));
     lines.push(typed(Telex, &"b".repeat(CELLS + 1)));
@@ -335,18 +366,25 @@ fn odd() -> Vec<String> {
     lines
 }
 
+/// Bytes to be poked into `POKED`, some of which make it unsound: a place, and values.
+pub const POKES: [(usize, &[u8]); 30] = [
+    (0, &[1, 2, 255]), (1, &[1, 2, 255]), (2, &[2, 4, 32, 33, 255]), (3, &[1, 2, 255]), (4, &[1]), (5, &[1]), (6, &[1]),
+    (7, &[1, 255]),
+    (8, &[0x62, 0x80]), (9, &[1, 2]), (10, &[1]), (11, &[1, 255]), (12, &[0x61, 1]), (13, &[1]), (14, &[1, 0x31, 0x36, 0x61, 0x73, 0x80]),
+    (15, &[1, 2, 255]), (16, &[2, 4, 0xe2]), (17, &[0, 2]), (18, &[1]), (20, &[0, 2, 0xe2]), (21, &[0, 2]), (22, &[0, 0x6a, 0x7a]),
+    (23, &[0, 2]), (32, &[1]), (36, &[1]), (38, &[0x73]), (39, &[1]), (SIZE - 8, &[0x61]), (SIZE - 2, &[0x73]), (SIZE - 1, &[1]),
+];
+pub const POKED: [Cell; 3] = [
+    Cell { base: 'a', mark: None, tone: None, upper: false },
+    Cell { base: 'ă', mark: Some('ă'), tone: Some('s'), upper: true },
+    Cell { base: 'B', mark: None, tone: None, upper: true },
+];
+
 /// A byte of each kind with a value that spells nothing, and other lengths.
 fn unsound() -> Vec<String> {
-    let cells = [plain('a'), Cell { base: 'ă', mark: Some('ă'), tone: Some('s'), upper: true }, plain('B')];
-    let session = || Session::handed(&handed(Telex, &cells));
+    let session = || Session::handed(&handed(Telex, &POKED));
     let mut lines = Vec::new();
-    for (place, values) in [
-        (0, &[1, 2, 255][..]), (1, &[1, 2, 255]), (2, &[2, 4, 32, 33, 255]), (3, &[1, 2, 255]), (4, &[1]), (5, &[1]), (6, &[1]),
-        (7, &[1, 255]),
-        (8, &[0x62, 0x80]), (9, &[1, 2]), (10, &[1]), (11, &[1, 255]), (12, &[0x61, 1]), (13, &[1]), (14, &[1, 0x31, 0x36, 0x61, 0x73, 0x80]),
-        (15, &[1, 2, 255]), (16, &[2, 4, 0xe2]), (17, &[0, 2]), (18, &[1]), (20, &[0, 2, 0xe2]), (21, &[0, 2]), (22, &[0, 0x6a, 0x7a]),
-        (23, &[0, 2]), (32, &[1]), (36, &[1]), (38, &[0x73]), (39, &[1]), (SIZE - 8, &[0x61]), (SIZE - 2, &[0x73]), (SIZE - 1, &[1]),
-    ] {
+    for (place, values) in POKES {
         for &value in values {
             for call in ASKED.into_iter().chain([Call::Text(ROOM), Call::Reset]) {
                 lines.push(session().poke(place, value).named(call).line());

@@ -258,6 +258,18 @@ static uint32_t undo(uint32_t trigger, const char *raw)
     return undo_raw(trigger, code_points, length);
 }
 
+static uint32_t write_draft(size_t room)
+{
+    begin();
+    return end_of_call(pasdrongel_write_draft(given(), state_size, lent(&the_output, NULL, room), room, counted()), THE_BYTES);
+}
+
+static uint32_t read_draft(const void *from, size_t length)
+{
+    begin();
+    return end_of_call(pasdrongel_read_draft(lent(&the_input, from, length), length, given(), state_size), THE_STATE);
+}
+
 typedef uint32_t key_call(uint32_t method, uint32_t key, uint32_t *answer);
 
 static uint32_t of_key(key_call *call, uint32_t method, uint32_t letter)
@@ -468,6 +480,8 @@ static void unsound(void)
     FACT(set_capitals(2) == PASDRONGEL_REFUSED_UNSOUND);
     FACT(undo_raw(FOREIGN, raw, PASDRONGEL_WORD_LETTERS + 1) == PASDRONGEL_REFUSED_UNSOUND);
     FACT(undo('s', "as") == PASDRONGEL_REFUSED_UNSOUND);
+    FACT(write_draft(0) == PASDRONGEL_REFUSED_UNSOUND);
+    FACT(write_draft(PASDRONGEL_DRAFT_ROOM) == PASDRONGEL_REFUSED_UNSOUND);
 }
 
 /* Puts one byte of the composition to a value that makes it unsound, and back. */
@@ -934,6 +948,297 @@ static void undo_facts(void)
     FACT(undo('1', "a1") == PASDRONGEL_REFUSED_NO_UNDO && shows("á"));
 }
 
+/* ---- drafts, by what request 2026-02 says of them */
+
+#define FRAME 15 /* the bytes of a draft without its cells */
+#define CELL 7
+#define DRAFT(text) (const uint8_t *)(text), sizeof(text) - 1
+
+/* A draft as it stands in this file, field by field; `cells` has the length too. */
+#define FIELDS(method, mode, cells, capitals) "\1\0\1" method "\2\0\1" mode "\3" cells "\4\0\1" capitals
+
+/* Is the composition written as these bytes, and read from them, whatever stood where it is read to? */
+static int drafted(const uint8_t *draft, size_t length)
+{
+    uint8_t before[STATE];
+    memcpy(before, state, STATE);
+    FACT(length > 0 && write_draft(length - 1) == PASDRONGEL_REFUSED_SHORT);
+    FACT(write_draft(length) == PASDRONGEL_DONE && count == length && memcmp(bytes, draft, length) == 0);
+    FACT(write_draft(PASDRONGEL_DRAFT_ROOM) == PASDRONGEL_DONE && count == length && memcmp(bytes, draft, length) == 0);
+    memset(state, GUARD, sizeof state); /* no sound composition */
+    FACT(read_draft(draft, length) == PASDRONGEL_DONE && memcmp(state, before, STATE) == 0);
+    memset(state, 0xff, sizeof state);
+    FACT(read_draft(draft, length) == PASDRONGEL_DONE);
+    return memcmp(state, before, STATE) == 0;
+}
+
+static void draft_examples(void)
+{
+    fresh(PASDRONGEL_TELEX);
+    FACT(drafted(DRAFT(FIELDS("\0", "\0", "\0\0", "\0"))));
+    FACT(set_capitals(PASDRONGEL_CAPITALS_ON) == PASDRONGEL_DONE && drafted(DRAFT(FIELDS("\0", "\0", "\0\0", "\1"))));
+    fresh(PASDRONGEL_VNI);
+    FACT(drafted(DRAFT(FIELDS("\1", "\0", "\0\0", "\0"))));
+    FACT(set_mode(PASDRONGEL_ENGLISH) == PASDRONGEL_DONE && drafted(DRAFT(FIELDS("\1", "\1", "\0\0", "\0"))));
+    FACT(literal(letter_of("Ấ")) == PASDRONGEL_DONE && drafted(DRAFT(FIELDS("\1", "\1", "\0\7" "\0\0\x1e\xa4\0\0\1", "\0"))));
+    FACT(types(PASDRONGEL_TELEX, "a", "a") && drafted(DRAFT(FIELDS("\0", "\0", "\0\7" "\0\0\0a\0\0\0", "\0"))));
+    FACT(types(PASDRONGEL_TELEX, "DDaf", "đà"));
+    FACT(drafted(DRAFT(FIELDS("\0", "\0", "\0\x0e" "\0\0\1\x11\1\0\1" "\0\0\0a\0f\0", "\0"))));
+    FACT(types(PASDRONGEL_VNI, "u7o71", "ướ"));
+    FACT(drafted(DRAFT(FIELDS("\1", "\0", "\0\x0e" "\0\0\1\xb0\1\0\0" "\0\0\1\xa1\1" "1\0", "\0"))));
+    FACT(types_with(PASDRONGEL_CAPITALS_ON, PASDRONGEL_TELEX, "AAN", "ÂN"));
+    FACT(drafted(DRAFT(FIELDS("\0", "\0", "\0\x0e" "\0\0\0\xe2\1\0\1" "\0\0\0N\0\0\1", "\1"))));
+    /* the pale house: the tone that no text shows is kept too */
+    FACT(types(PASDRONGEL_VNI, "a 2", "a "));
+    FACT(drafted(DRAFT(FIELDS("\1", "\0", "\0\x0e" "\0\0\0a\0\0\0" "\0\0\0 \0" "2\0", "\0"))));
+    /* cells that no key makes: a flag on U+0000, a toned consonant that is a capital with no flag, â with no mark */
+    fresh(PASDRONGEL_TELEX);
+    state[2] = 3;
+    cell(0)[7] = 1, cell(1)[0] = 'B', cell(1)[6] = '5', cell(2)[0] = 0xe2;
+    FACT(drafted(DRAFT(FIELDS("\0", "\0", "\0\x15" "\0\0\0\0\0\0\1" "\0\0\0B\0" "5\0" "\0\0\0\xe2\0\0\0", "\0"))));
+}
+
+/* The composition of a draft, byte by byte as docs/BYTES.md has it, if the bytes are one. This is the request's sentence a
+ * second time: which bytes are a draft, every change below is held to. */
+static int composition_of(const uint8_t *draft, size_t length, uint8_t *composition)
+{
+    static const char *const marks[] = {"ă", "â", "ê", "ô", "ơ", "ư", "đ"};
+    size_t i, j, n = length < FRAME ? 0 : (length - FRAME) / CELL;
+    const uint8_t *tail = draft + FRAME - 4 + CELL * n;
+    memset(composition, 0, STATE);
+    if (length < FRAME || length != FRAME + CELL * n || n > PASDRONGEL_CELLS)
+        return 0;
+    if (memcmp(draft, "\1\0\1", 3) != 0 || memcmp(draft + 4, "\2\0\1", 3) != 0 || memcmp(tail, "\4\0\1", 3) != 0)
+        return 0;
+    if (draft[8] != 3 || draft[9] * 256u + draft[10] != CELL * n || draft[3] > 1 || draft[7] > 1 || tail[3] > 1)
+        return 0;
+    composition[0] = draft[3], composition[1] = draft[7], composition[2] = (uint8_t)n, composition[3] = tail[3];
+    for (i = 0; i < n; i++) {
+        const uint8_t *from = draft + 11 + CELL * i;
+        uint8_t *to = composition + HEAD + 8 * i;
+        uint32_t base = (uint32_t)from[0] << 24 | (uint32_t)from[1] << 16 | (uint32_t)from[2] << 8 | from[3];
+        int marked = 0;
+        for (j = 0; j < sizeof marks / sizeof *marks; j++)
+            marked = marked || base == letter_of(marks[j]);
+        if (check_letter(base) != PASDRONGEL_DONE || from[4] > marked || from[6] > 1)
+            return 0;
+        if (from[5] != 0 && memchr("fsrxj12345", from[5], 10) == NULL)
+            return 0;
+        for (j = 0; j < 4; j++)
+            to[j] = from[3 - j];
+        for (j = 0; j < 2 && from[4] == 1; j++)
+            to[4 + j] = to[j];
+        to[6] = from[5], to[7] = from[6];
+    }
+    return 1;
+}
+
+static size_t drafts; /* how many have been */
+
+/* These bytes are read as the composition that they are the draft of, and written back as they are; or refused by 11. */
+static void reads(const uint8_t *draft, size_t length)
+{
+    uint8_t composition[STATE], before[MOST];
+    memcpy(before, draft, length);
+    if (!composition_of(before, length, composition)) {
+        FACT(read_draft(before, length) == PASDRONGEL_REFUSED_NO_DRAFT);
+        return;
+    }
+    FACT(read_draft(before, length) == PASDRONGEL_DONE && memcmp(state, composition, STATE) == 0);
+    FACT(check_composition() == PASDRONGEL_DONE);
+    FACT(write_draft(length) == PASDRONGEL_DONE && count == length && memcmp(bytes, before, length) == 0);
+    drafts++;
+}
+
+/* Each byte changed, one put in, one left out, cut off and added; with every value, or with some that stand at an edge. */
+static void changed(const uint8_t *draft, size_t length, int every)
+{
+    static const uint8_t edges[] = {0, 1, 2, 3, 4, 7, 'a', 'f', 0x80, 0xff};
+    uint8_t other[MOST];
+    size_t at, i, values = every ? 256 : sizeof edges;
+    for (i = 0; i < values; i++) {
+        uint8_t value = every ? (uint8_t)i : edges[i];
+        for (at = 0; at < length; at++) {
+            memcpy(other, draft, length);
+            other[at] = value;
+            reads(other, length);
+        }
+        for (at = 0; at <= length; at++) {
+            memcpy(other, draft, at);
+            other[at] = value;
+            memcpy(other + at + 1, draft + at, length - at);
+            FACT(read_draft(other, length + 1) == PASDRONGEL_REFUSED_NO_DRAFT);
+        }
+    }
+    for (at = 0; at < length; at++) {
+        FACT(read_draft(draft, at) == PASDRONGEL_REFUSED_NO_DRAFT); /* cut off before `at`: no draft begins another */
+        memcpy(other, draft, at);
+        memcpy(other + at, draft + at + 1, length - at - 1);
+        FACT(read_draft(other, length - 1) == PASDRONGEL_REFUSED_NO_DRAFT);
+    }
+    memset(other, 0, sizeof other);
+    memcpy(other, draft, length);
+    for (at = length + 1; at <= 2 * length && at <= MOST; at++)
+        FACT(read_draft(other, at) == PASDRONGEL_REFUSED_NO_DRAFT);
+    FACT(read_draft(draft, length) == PASDRONGEL_DONE);
+}
+
+/* Fields that are there twice, not at all, in another order, of another tag or length: a whole of them is no draft. */
+static void field_facts(void)
+{
+    static const uint8_t fields[4][11] = {"\1\0\1\0", "\2\0\1\0", "\3\0\7\0\0\0a\0\0\0", "\4\0\1\0"};
+    static const size_t lengths[4] = {4, 4, 10, 4};
+    uint8_t other[MOST];
+    size_t chosen, code, i, n, length, all = 1;
+    for (n = 0; n <= 5; n++, all *= 4)
+        for (chosen = 0; chosen < all; chosen++) { /* every row of up to five of the four fields */
+            for (i = 0, length = 0, code = chosen; i < n; i++, code /= 4) {
+                memcpy(other + length, fields[code % 4], lengths[code % 4]);
+                length += lengths[code % 4];
+            }
+            FACT((read_draft(other, length) == PASDRONGEL_DONE) == (n == 4 && chosen == 0 + 4 * 1 + 16 * 2 + 64 * 3));
+        }
+    /* what a later version may add: a field more, here of tag 5, before, between or after them */
+    FACT(read_draft(DRAFT(FIELDS("\0", "\0", "\0\0", "\0") "\5\0\1\1")) == PASDRONGEL_REFUSED_NO_DRAFT);
+    FACT(read_draft(DRAFT("\5\0\1\1" FIELDS("\0", "\0", "\0\0", "\0"))) == PASDRONGEL_REFUSED_NO_DRAFT);
+    FACT(read_draft(DRAFT("\1\0\1\0" "\2\0\1\0" "\5\0\4\0\0\0\0" "\4\0\1\0")) == PASDRONGEL_REFUSED_NO_DRAFT);
+    /* a field of another length that says it: none, two bytes; and bytes that a length skips */
+    FACT(read_draft(DRAFT("\1\0\0" "\2\0\1\0" "\3\0\0" "\4\0\1\0")) == PASDRONGEL_REFUSED_NO_DRAFT);
+    FACT(read_draft(DRAFT("\1\0\2\0\0" "\2\0\1\0" "\3\0\0" "\4\0\1\0")) == PASDRONGEL_REFUSED_NO_DRAFT);
+    FACT(read_draft(DRAFT(FIELDS("\0", "\0", "\0\1\0", "\0"))) == PASDRONGEL_REFUSED_NO_DRAFT);
+    FACT(read_draft(DRAFT(FIELDS("\0", "\0", "\0\6\0\0\0a\0\0", "\0"))) == PASDRONGEL_REFUSED_NO_DRAFT);
+    FACT(read_draft(DRAFT(FIELDS("\0", "\0", "\0\x8\0\0\0a\0\0\0\0", "\0"))) == PASDRONGEL_REFUSED_NO_DRAFT);
+    FACT(read_draft(DRAFT(FIELDS("\0", "\0", "\0\0\0\0\0a\0\0\0", "\0"))) == PASDRONGEL_REFUSED_NO_DRAFT);
+    /* the length of a field with its low byte first */
+    FACT(read_draft(DRAFT("\1\1\0\0" "\2\0\1\0" "\3\0\0" "\4\0\1\0")) == PASDRONGEL_REFUSED_NO_DRAFT);
+    FACT(read_draft(DRAFT(FIELDS("\0", "\0", "\7\0" "\0\0\0a\0\0\0", "\0"))) == PASDRONGEL_REFUSED_NO_DRAFT);
+}
+
+/* Cells alone: each base at the alphabet's edges, with and without a mark; every tone and flag byte. */
+static void cell_facts(void)
+{
+    static const uint32_t bases[] = {0, 0x7f, 0x80, 'a', 0xc4, 0xe2, 0xea, 0xf4, 0x103, 0x102, 0x111, 0x110, 0x1a1, 0x1b0, 0x1af,
+        0x1ea0, 0x1ea4, 0x1ef9, 0x1efa, 0x10061, 0x100e2, 0x61000000, 0x80000061, 0xe2000000, 0xffffffff};
+    uint8_t draft[FRAME + CELL], *x = draft + 11;
+    size_t i, j;
+    memcpy(draft, FIELDS("\1", "\0", "\0\7" "\0\0\0\0\0\0\0", "\1"), sizeof draft);
+    for (i = 0; i < sizeof bases / sizeof *bases; i++)
+        for (j = 0; j < 4; j++) {
+            x[0] = (uint8_t)(bases[i] >> 24), x[1] = (uint8_t)(bases[i] >> 16);
+            x[2] = (uint8_t)(bases[i] >> 8), x[3] = (uint8_t)bases[i];
+            x[4] = j == 3 ? (uint8_t)bases[i] : (uint8_t)j; /* no, yes, and what is neither: a mark by its own letter */
+            reads(draft, sizeof draft);
+        }
+    /* a mark is its base, and no mark is 0: so U+0000 with a mark would be read as U+0000 without, which has a form already */
+    FACT(read_draft(DRAFT(FIELDS("\0", "\0", "\0\7" "\0\0\0\0\1\0\0", "\0"))) == PASDRONGEL_REFUSED_NO_DRAFT);
+    for (i = 0; i < 256; i++) {
+        x[0] = x[1] = x[4] = 0, x[2] = 0x1e, x[3] = 0xa4, x[5] = (uint8_t)i, x[6] = 0;
+        reads(draft, sizeof draft);
+        x[5] = 0, x[6] = (uint8_t)i;
+        reads(draft, sizeof draft);
+    }
+}
+
+/* Broken off after each of the keys, kept as a draft, and read where something else stood. */
+static void goes_on(uint32_t on, uint32_t method, const char *keys)
+{
+    uint8_t whole[STATE], draft[MOST];
+    char first[MOST];
+    size_t i;
+    fresh(method);
+    FACT(turns(on));
+    type(keys);
+    memcpy(whole, state, STATE);
+    for (i = 0; i <= strlen(keys); i++) {
+        memcpy(first, keys, i);
+        first[i] = '\0';
+        fresh(method);
+        FACT(turns(on));
+        type(first);
+        FACT(write_draft(PASDRONGEL_DRAFT_ROOM) == PASDRONGEL_DONE);
+        memcpy(draft, bytes, count);
+        memset(state, GUARD, STATE);
+        FACT(read_draft(draft, count) == PASDRONGEL_DONE);
+        type(keys + i);
+        FACT(memcmp(state, whole, STATE) == 0);
+    }
+}
+
+static void draft_facts(void)
+{
+    uint8_t draft[MOST];
+    size_t i, length;
+
+    draft_examples();
+
+    /* the ladder of the writer: 10, 3 */
+    FACT(types_with(PASDRONGEL_CAPITALS_ON, PASDRONGEL_TELEX, "DDaf", "Đà"));
+    state[3] = 2;
+    FACT(write_draft(0) == PASDRONGEL_REFUSED_UNSOUND && write_draft(PASDRONGEL_DRAFT_ROOM) == PASDRONGEL_REFUSED_UNSOUND);
+    state[3] = PASDRONGEL_CAPITALS_ON;
+    for (i = 0; i <= PASDRONGEL_DRAFT_ROOM + 1; i++)
+        FACT(write_draft(i) == (i < FRAME + 2 * CELL ? PASDRONGEL_REFUSED_SHORT : PASDRONGEL_DONE));
+    length = count;
+    memcpy(draft, bytes, length);
+    FACT(length == FRAME + 2 * CELL);
+
+    /* the ladder of the reader: 10, 11. The composition that stands there is not looked at: a sound one, and none */
+    for (i = 0; i < 5; i++) {
+        static const size_t sizes[] = {0, 1, STATE - 1, STATE + 1, MOST};
+        state_size = sizes[i];
+        FACT(read_draft(draft, length - 1) == PASDRONGEL_REFUSED_UNSOUND && read_draft(draft, 0) == PASDRONGEL_REFUSED_UNSOUND);
+        FACT(read_draft(draft, length) == PASDRONGEL_REFUSED_UNSOUND);
+    }
+    state_size = STATE;
+    for (i = 0; i < 256; i += 51) {
+        memset(state, (int)i, sizeof state);
+        FACT(read_draft(draft, length - 1) == PASDRONGEL_REFUSED_NO_DRAFT && read_draft(draft, 0) == PASDRONGEL_REFUSED_NO_DRAFT);
+        FACT(state[0] == i && state[STATE - 1] == i);
+        FACT(read_draft(draft, length) == PASDRONGEL_DONE && shows("Đà") && capitals_are(PASDRONGEL_CAPITALS_ON));
+    }
+
+    /* no other bytes are this composition's, and what else is read is another's */
+    changed(draft, length, 1);
+    FACT(types(PASDRONGEL_VNI, "a61", "ấ") && write_draft(PASDRONGEL_DRAFT_ROOM) == PASDRONGEL_DONE);
+    length = count;
+    memcpy(draft, bytes, length);
+    changed(draft, length, 1);
+    fresh(PASDRONGEL_TELEX);
+    FACT(set_mode(PASDRONGEL_ENGLISH) == PASDRONGEL_DONE && write_draft(FRAME) == PASDRONGEL_DONE && count == FRAME);
+    memcpy(draft, bytes, FRAME);
+    drafts = 0;
+    changed(draft, FRAME, 1);
+    FACT(drafts == 12 + 3 * 2); /* twelve bytes have one value, and each setting has two */
+    field_facts();
+    cell_facts();
+
+    /* one cell after the other, up to the last: the room that always suffices, and one byte less */
+    FACT(PASDRONGEL_DRAFT_ROOM == FRAME + CELL * PASDRONGEL_CELLS);
+    fresh(PASDRONGEL_VNI);
+    for (i = 0; i <= PASDRONGEL_CELLS; i++) {
+        FACT(i == 0 || literal(letter_of(i % 2 == 0 ? "Ấ" : "đ")) == PASDRONGEL_DONE);
+        length = FRAME + CELL * i;
+        FACT(write_draft(length - 1) == PASDRONGEL_REFUSED_SHORT);
+        FACT(write_draft(length) == PASDRONGEL_DONE && count == length);
+        reads(bytes, length);
+    }
+    FACT(length == PASDRONGEL_DRAFT_ROOM);
+    memcpy(draft, bytes, length);
+    changed(draft, length, 0);
+    /* a cell more, and so on past a length of one byte: its fields are in order, and no composition has so many cells */
+    for (i = PASDRONGEL_CELLS + 1; FRAME + CELL * i <= MOST; i++) {
+        memmove(draft + 11 + CELL, draft + 11, FRAME + CELL * i - 11 - CELL);
+        draft[9] = (uint8_t)(CELL * i / 256), draft[10] = (uint8_t)(CELL * i % 256);
+        reads(draft, FRAME + CELL * i);
+    }
+
+    /* a composition that is taken up goes on as if it had never been left */
+    goes_on(PASDRONGEL_CAPITALS_OFF, PASDRONGEL_TELEX, "DDUOWNGF");
+    goes_on(PASDRONGEL_CAPITALS_ON, PASDRONGEL_TELEX, "DDUOWNGF");
+    goes_on(PASDRONGEL_CAPITALS_OFF, PASDRONGEL_VNI, "nguye6n4 2");
+    goes_on(PASDRONGEL_CAPITALS_ON, PASDRONGEL_VNI, "LU7O71I");
+}
+
 /* ---- input methods */
 
 static void method_facts(void)
@@ -1083,6 +1388,12 @@ static void null_facts(void)
     FACT(TRIED(pasdrongel_set_method(NULL, 0, PASDRONGEL_VNI), NOTHING) == PASDRONGEL_REFUSED_UNSOUND);
     FACT(TRIED(pasdrongel_set_mode(NULL, 0, PASDRONGEL_ENGLISH), NOTHING) == PASDRONGEL_REFUSED_UNSOUND);
     FACT(TRIED(pasdrongel_set_capitals(NULL, 0, PASDRONGEL_CAPITALS_ON), NOTHING) == PASDRONGEL_REFUSED_UNSOUND);
+    FACT(TRIED(pasdrongel_write_draft(NULL, 0, lent(&the_output, NULL, 99), 99, counted()), NOTHING) == PASDRONGEL_REFUSED_UNSOUND);
+    FACT(TRIED(pasdrongel_write_draft(NULL, 0, NULL, 0, counted()), NOTHING) == PASDRONGEL_REFUSED_UNSOUND);
+    FACT(TRIED(pasdrongel_write_draft(given(), STATE, NULL, 0, counted()), NOTHING) == PASDRONGEL_REFUSED_SHORT);
+    FACT(TRIED(pasdrongel_read_draft(NULL, 0, NULL, 0), NOTHING) == PASDRONGEL_REFUSED_UNSOUND);
+    FACT(TRIED(pasdrongel_read_draft(DRAFT(FIELDS("\0", "\0", "\0\0", "\0")), NULL, 0), NOTHING) == PASDRONGEL_REFUSED_UNSOUND);
+    FACT(TRIED(pasdrongel_read_draft(NULL, 0, given(), STATE), NOTHING) == PASDRONGEL_REFUSED_NO_DRAFT);
     FACT(TRIED(pasdrongel_remove_last(NULL, 0, NULL, 0, counted()), NOTHING) == PASDRONGEL_REFUSED_UNSOUND);
     FACT(TRIED(pasdrongel_remove_last(given(), STATE, NULL, 0, counted()), THE_STATE | A_COUNT) == PASDRONGEL_DONE && count == 0);
     FACT(TRIED(pasdrongel_text(given(), STATE, NULL, 0, counted()), A_COUNT) == PASDRONGEL_DONE && count == 0);
@@ -1109,7 +1420,7 @@ static void library_facts(void)
     FACT(pasdrongel_version() == PASDRONGEL_VERSION);
     FACT(pasdrongel_composition_bytes() == PASDRONGEL_COMPOSITION_BYTES);
     FACT(PASDRONGEL_VERSION_MINOR < 1000 && PASDRONGEL_VERSION_PATCH < 1000);
-    for (i = 0; i <= PASDRONGEL_REFUSED_UNSOUND + 1; i++) {
+    for (i = 0; i <= PASDRONGEL_REFUSED_NO_DRAFT + 1; i++) {
         const char *text = pasdrongel_refusal_text(i), *at;
         FACT(text != NULL && *text != '\0' && strlen(text) <= 63);
         for (at = text; *at != '\0'; at++)
@@ -1119,7 +1430,7 @@ static void library_facts(void)
         FACT(PASDRONGEL_REFUSAL(0x700u + i) == i && PASDRONGEL_REFUSAL(0xffffff00u | i) == i);
         FACT(pasdrongel_refusal_text(0x700u + i) == text && pasdrongel_refusal_text(0xffffff00u | i) == text);
     }
-    FACT(pasdrongel_refusal_text(0xffffffff) == pasdrongel_refusal_text(PASDRONGEL_REFUSED_UNSOUND + 1));
+    FACT(pasdrongel_refusal_text(0xffffffff) == pasdrongel_refusal_text(PASDRONGEL_REFUSED_NO_DRAFT + 1));
 }
 
 int main(void)
@@ -1137,6 +1448,7 @@ int main(void)
     change_facts();
     capitals_facts();
     undo_facts();
+    draft_facts();
     method_facts();
     speller_facts();
     list_facts();

@@ -26,6 +26,8 @@ WRAP(new, uint8_t *state, size_t size, uint32_t method);
 WRAP(reset, uint8_t *state, size_t size);
 WRAP(set_method, uint8_t *state, size_t size, uint32_t method);
 WRAP(undo, uint8_t *state, size_t size, uint32_t trigger, const uint32_t *raw, size_t length, uint32_t *behaviour);
+WRAP(write_draft, const uint8_t *state, size_t size, uint8_t *draft, size_t room, size_t *count);
+WRAP(read_draft, const uint8_t *draft, size_t length, uint8_t *state, size_t size);
 WRAP(is_separator, uint32_t letter, uint32_t *yes);
 WRAP(read_utf8, const uint8_t *bytes, size_t length, uint32_t *letters, size_t room, size_t *count);
 
@@ -246,6 +248,108 @@ uint32_t __wrap_pasdrongel_undo(
     uint32_t refusal = __real_pasdrongel_undo(state, size, trigger, raw, length, behaviour);
     if (fault(41))
         turn_off(refusal, state);
+    return refusal;
+}
+
+#define CELLS 11 /* where the cells of a draft begin */
+#define CELL 7
+
+/* A draft that was written. */
+static void spoil_draft(const uint8_t *state, uint8_t *draft, size_t room, const size_t *count)
+{
+    size_t i;
+    uint8_t low;
+    if (fault(42) && *count < room)
+        draft[*count] = 0;  /* a byte past the draft */
+    if (fault(43))
+        draft[*count - 1] = PASDRONGEL_CAPITALS_OFF; /* capitals are lost */
+    if (fault(44))
+        draft[7] = PASDRONGEL_VIETNAMESE; /* the mode is */
+    for (i = 0; i < state[2]; i++) {
+        uint8_t *cell = draft + CELLS + CELL * i;
+        if (fault(45))
+            low = cell[3], cell[3] = cell[2], cell[2] = low; /* a base has its low byte before the next */
+        if (fault(46))
+            cell[4] = 0;    /* no cell has a mark */
+        if (fault(47) && cell[5] != 0)
+            cell[5] = 's';  /* every tone is this one */
+        if (fault(48) && cell[3] > 0x7f)
+            cell[6] = 0;    /* a flag is lost where the letter is no longer a capital of ASCII */
+    }
+}
+
+uint32_t __wrap_pasdrongel_write_draft(const uint8_t *state, size_t size, uint8_t *draft, size_t room, size_t *count)
+{
+    uint8_t mended[STATE];
+    uint32_t refusal;
+    if (fault(49) && room < PASDRONGEL_DRAFT_ROOM)
+        return PASDRONGEL_REFUSED_SHORT; /* asks for the room of the longest draft, and before 10 */
+    if (fault(50) && size == STATE && state[2] <= PASDRONGEL_CELLS) { /* what stands past the count is not tested */
+        memset(mended, 0, STATE);
+        memcpy(mended, state, HEAD + 8 * (size_t)state[2]);
+        state = mended;
+    }
+    refusal = __real_pasdrongel_write_draft(state, size, draft, room, count);
+    if (fault(51) && refusal == PASDRONGEL_REFUSED_SHORT)
+        *count = 15 + CELL * (size_t)state[2]; /* a refusal that says how much room it wants */
+    if (fault(52) && refusal == PASDRONGEL_REFUSED_SHORT && room > 0)
+        draft[0] = 1;       /* a refusal that has begun to write */
+    if (refusal == PASDRONGEL_DONE)
+        spoil_draft(state, draft, room, count);
+    return refusal;
+}
+
+/* Bytes that are no draft, changed to those that this fault takes them for. */
+static size_t taken_for(const uint8_t *draft, size_t length, uint8_t *other)
+{
+    size_t i, n = length < 15 ? 0 : (length - 15) / CELL;
+    memcpy(other, draft, length);
+    if (fault(53) && length > 15 && (length - 15) % CELL == 1)
+        return length - 1;  /* a byte is left over */
+    for (i = 0; i < n; i++) {
+        uint8_t *cell = other + CELLS + CELL * i;
+        if (fault(54) && cell[2] == 0 && cell[3] < 0x80)
+            cell[4] = 0;    /* a mark on a letter that has none is no mark */
+        if (fault(55) && cell[2] == 0 && cell[3] == 0)
+            cell[4] = 0;    /* nor is one on U+0000, which a mark that is its base cannot say */
+        if (fault(56))
+            cell[0] = cell[1] = 0; /* a base has two bytes */
+    }
+    return length;
+}
+
+uint32_t __wrap_pasdrongel_read_draft(const uint8_t *draft, size_t length, uint8_t *state, size_t size)
+{
+    uint8_t other[4096], before[STATE] = {0};
+    uint32_t refusal;
+    size_t i;
+    if (size == STATE)
+        memcpy(before, state, STATE);
+    if (fault(57) && __real_pasdrongel_check_composition(state, size) != PASDRONGEL_DONE)
+        return PASDRONGEL_REFUSED_UNSOUND; /* looks at what stands there */
+    if (fault(58) && draft == NULL)
+        return PASDRONGEL_REFUSED_UNSOUND; /* asks where an empty draft stands */
+    if (fault(59) && draft[length] == 7)
+        return PASDRONGEL_REFUSED_NO_DRAFT; /* reads past what is lent */
+    length = length == 0 ? 0 : taken_for(draft, length, other);
+    refusal = __real_pasdrongel_read_draft(length == 0 ? draft : other, length, state, size);
+    if (fault(60) && refusal == PASDRONGEL_REFUSED_NO_DRAFT)
+        memset(state, 0, STATE); /* what stood there is gone before the draft is known to be one */
+    if (fault(61) && refusal == PASDRONGEL_REFUSED_NO_DRAFT && length > 3)
+        state[0] = draft[3]; /* a refusal that has begun to read */
+    if (refusal != PASDRONGEL_DONE)
+        return refusal;
+    if (fault(62))
+        state[3] = before[3] <= 1 ? before[3] : 0; /* capitals are as they were */
+    if (fault(63))
+        state[1] = PASDRONGEL_VIETNAMESE; /* the mode is not read */
+    if (fault(64) && state[2] < PASDRONGEL_CELLS)
+        memcpy(state + HEAD + 8 * state[2], before + HEAD + 8 * state[2], 8); /* a cell past the count is as it was */
+    for (i = 0; i < state[2]; i++)
+        if (fault(65))
+            state[HEAD + 8 * i + 6] = 0; /* no tone is read */
+    if (fault(66) && state[2] == PASDRONGEL_CELLS)
+        memset(state + STATE - 8, 0, 8), state[2]--; /* the last cell of all is not read */
     return refusal;
 }
 

@@ -10,6 +10,8 @@
  *   the setting of capitals and the count are those bytes, and a separator is one of twelve letters.
  * - Capitals are off in a new composition; the call that sets them changes nothing else, and no other call changes them. With
  *   the other setting every call does the same, but for the capitals that it shows and a flag that it takes (hold_capitals).
+ * - A composition is written as the one draft that it has, and that draft is read as this composition, whatever stood there.
+ *   Bytes are refused by 11 exactly where they are no draft; what is read of others is written back as the same bytes.
  * - The same call on other memory, with other content in its outputs, does the same.
  * - It makes no difference whether an empty buffer is NULL.
  * - A refusal by 3 is one for want of room: with enough of it the answer is longer than the room was. And an answer with
@@ -27,7 +29,7 @@
 #define MOST_INPUT 300
 #define MOST_ROOM 300
 #define MOST_SHOWN 20
-#define REFUSALS 11
+#define REFUSALS 12
 
 /* ---- random numbers: xorshift64* */
 
@@ -112,6 +114,8 @@ CALL(set_method, WITH_STATE, g->a)
 CALL(set_mode, WITH_STATE, g->a)
 CALL(set_capitals, WITH_STATE, g->a)
 CALL(undo, WITH_STATE, g->a, WITH_INPUT, p->first)
+CALL(write_draft, WITH_STATE, WITH_OUTPUT)
+CALL(read_draft, WITH_INPUT, WITH_STATE)
 CALL(is_tone_key, g->a, g->b, p->first)
 CALL(is_horn_key, g->a, g->b, p->first)
 CALL(mark_for, g->a, g->b, g->c, p->first)
@@ -173,6 +177,8 @@ static const struct kind {
     {"set_mode", call_set_mode, R(10), CHANGED, SETTING, 0, 0, 0, 0, 1},
     {"set_capitals", call_set_capitals, R(10), CHANGED, SETTING, 0, 0, 0, 0, 8},
     {"undo", call_undo, R(10) | R(6) | R(1) | R(5), CHANGED, KEY, 4, 0, 4, 0, 16},
+    {"write_draft", call_write_draft, R(10) | R(3), READ, NO_NUMBER, 0, 1, sizeof(size_t), 0, 12},
+    {"read_draft", call_read_draft, R(10) | R(11), MADE, NO_NUMBER, 1, 0, 0, 0, 16},
     {"is_tone_key", call_is_tone_key, R(10) | R(1), NO_STATE, SETTING, 0, 0, 4, 0, 1},
     {"is_horn_key", call_is_horn_key, R(10) | R(1), NO_STATE, SETTING, 0, 0, 4, 0, 1},
     {"mark_for", call_mark_for, R(10) | R(1), NO_STATE, SETTING, 0, 0, 4, 0, 2},
@@ -226,6 +232,50 @@ static int is_sound(const uint8_t *state, size_t size)
         if (i < state[2] ? !is_cell(state + HEAD + 8 * i) : memcmp(state + HEAD + 8 * i, blank, 8) != 0)
             return 0;
     return 1;
+}
+
+/* ---- the draft of a composition, as docs/DRAFTS.md has it */
+
+#define FRAME 15 /* the bytes of a draft without its cells */
+#define BEFORE_CELLS 11
+#define CELL 7
+
+/* The draft of a sound composition. */
+static size_t draft_of(const uint8_t *state, uint8_t *draft)
+{
+    size_t i, n = state[2];
+    const uint8_t before[] = {1, 0, 1, state[0], 2, 0, 1, state[1], 3, (uint8_t)(CELL * n / 256), (uint8_t)(CELL * n % 256)};
+    const uint8_t after[] = {4, 0, 1, state[3]};
+    memcpy(draft, before, sizeof before);
+    for (i = 0; i < n; i++) {
+        const uint8_t *from = state + HEAD + 8 * i;
+        uint8_t *to = draft + BEFORE_CELLS + CELL * i;
+        to[0] = from[3], to[1] = from[2], to[2] = from[1], to[3] = from[0];
+        to[4] = (from[4] | from[5]) != 0, to[5] = from[6], to[6] = from[7];
+    }
+    memcpy(draft + BEFORE_CELLS + CELL * n, after, sizeof after);
+    return FRAME + CELL * n;
+}
+
+/* Are these bytes a draft? They are if the composition that stands at its places in them is sound, and its draft is these bytes;
+ * it is in `state` then. */
+static int is_draft(const uint8_t *draft, size_t length, uint8_t *state)
+{
+    uint8_t form[FRAME + CELL * PASDRONGEL_CELLS];
+    size_t i, n = length < FRAME ? 0 : (length - FRAME) / CELL;
+    memset(state, 0, STATE);
+    if (length < FRAME || n > PASDRONGEL_CELLS)
+        return 0;
+    state[0] = draft[3], state[1] = draft[7], state[2] = (uint8_t)n, state[3] = draft[length - 1];
+    for (i = 0; i < n; i++) {
+        const uint8_t *from = draft + BEFORE_CELLS + CELL * i;
+        uint8_t *to = state + HEAD + 8 * i;
+        to[0] = from[3], to[1] = from[2], to[2] = from[1], to[3] = from[0];
+        if (from[4] != 0)
+            to[4] = to[0], to[5] = to[1]; /* a mark is its base */
+        to[6] = from[5], to[7] = from[6];
+    }
+    return is_sound(state, STATE) && draft_of(state, form) == length && memcmp(form, draft, length) == 0;
 }
 
 /* ---- one call, held to what is asked of it */
@@ -395,12 +445,60 @@ static void hold_setting(const struct kind *kind, const struct given *g, const s
 {
     int sets = kind->call == call_set_capitals;
     uint32_t expected = kind->use == MADE ? PASDRONGEL_CAPITALS_OFF : sets ? g->a : g->state[3];
-    if (left->refusal != PASDRONGEL_DONE || kind->use < CHANGED)
+    if (left->refusal != PASDRONGEL_DONE || kind->use < CHANGED || kind->call == call_read_draft)
         return;
     if (left->state[3] != expected)
         fault(kind, "it leaves another setting of capitals");
     if (sets && (memcmp(left->state, g->state, 3) != 0 || memcmp(left->state + 4, g->state + 4, STATE - 4) != 0))
         fault(kind, "it changes more than the setting of capitals");
+}
+
+/* What is written of a sound composition is its draft, and is read back as it, where something else stood. */
+static void hold_written(const struct kind *kind, const struct given *g, const struct left *left)
+{
+    uint8_t draft[FRAME + CELL * PASDRONGEL_CELLS], again[STATE];
+    size_t i, length = is_sound(g->state, g->state_size) ? draft_of(g->state, draft) : 0;
+    if (length > 0 && (left->refusal == PASDRONGEL_REFUSED_SHORT) != (g->room < length))
+        fault(kind, "it refuses by 3 another room than one that is too short");
+    if (left->refusal != PASDRONGEL_DONE)
+        return;
+    if (left->count != length || memcmp(left->output, draft, length) != 0)
+        fault(kind, "it writes another draft than the composition's");
+    for (i = 0; i < STATE; i++)
+        again[i] = (uint8_t)random_word();
+    calls++;
+    if (PASDRONGEL_REFUSAL(pasdrongel_read_draft(left->output, left->count, again, STATE)) != PASDRONGEL_DONE
+        || memcmp(again, g->state, STATE) != 0)
+        fault(kind, "what it writes is not read back as the composition");
+}
+
+/* What is read is the composition of the draft, and is written back as the same bytes; what is no draft is refused. */
+static void hold_read(const struct kind *kind, const struct given *g, const struct left *left)
+{
+    uint8_t draft[MOST_INPUT], again[MOST_INPUT], state[STATE];
+    size_t i, count = 0;
+    int known;
+    for (i = 0; i < g->length; i++)
+        draft[i] = (uint8_t)g->input[i];
+    known = is_draft(draft, g->length, state);
+    if (g->state_size == STATE && known == (left->refusal == PASDRONGEL_REFUSED_NO_DRAFT))
+        fault(kind, known ? "a draft is refused by 11" : "what is no draft is not refused by 11");
+    if (left->refusal != PASDRONGEL_DONE)
+        return;
+    if (memcmp(left->state, state, STATE) != 0)
+        fault(kind, "it reads another composition than the draft's");
+    calls++;
+    if (PASDRONGEL_REFUSAL(pasdrongel_write_draft(left->state, STATE, again, sizeof again, &count)) != PASDRONGEL_DONE
+        || count != g->length || memcmp(again, draft, count) != 0)
+        fault(kind, "what it reads is not written back as the same bytes");
+}
+
+static void hold_draft(const struct kind *kind, const struct given *g, const struct left *left)
+{
+    if (kind->call == call_write_draft)
+        hold_written(kind, g, left);
+    if (kind->call == call_read_draft)
+        hold_read(kind, g, left);
 }
 
 static int same(const struct kind *kind, const struct given *g, const struct left *one, const struct left *other)
@@ -494,6 +592,7 @@ static void hold(const struct kind *kind, const struct given *g, struct left *le
     hold_answer(kind, g, left);
     hold_number(kind, g, left);
     hold_setting(kind, g, left);
+    hold_draft(kind, g, left);
     make_call(kind, g, LOW, 0x5a, &again);
     hold_memory(kind, &again);
     if (!same(kind, g, left, &again))
@@ -630,6 +729,70 @@ static void some_state(struct given *g, uint32_t rarity)
     }
 }
 
+/* A sound composition that no keys need make. */
+static void odd_composition(uint8_t *state)
+{
+    static const uint16_t marks[] = {0x103, 0xe2, 0xea, 0xf4, 0x1a1, 0x1b0, 0x111};
+    static const char tones[] = "fsrxj12345";
+    size_t i, n = one_in(4) ? 30 + below(3) : below(12);
+    memset(state, 0, STATE);
+    state[0] = (uint8_t)below(2), state[1] = (uint8_t)one_in(8), state[2] = (uint8_t)n, state[3] = (uint8_t)below(2);
+    for (i = 0; i < n; i++) {
+        uint8_t *cell = state + HEAD + 8 * i;
+        uint32_t base = one_in(3) ? marks[below(7)] : one_in(4) ? 0 : any_letter();
+        cell[0] = (uint8_t)base, cell[1] = (uint8_t)(base >> 8);
+        cell[4] = cell[0], cell[5] = cell[1];
+        if (one_in(3) || !is_cell(cell))
+            cell[4] = cell[5] = 0;
+        cell[6] = one_in(2) ? (uint8_t)tones[below(10)] : 0;
+        cell[7] = (uint8_t)one_in(3);
+    }
+}
+
+/* The draft of the session's composition or of an odd one; half of them as it is, the others cut off, with a byte put in, left
+ * out or changed, or with more cells than a composition has. */
+static void some_draft(struct given *g)
+{
+    static const uint8_t edges[] = {0, 1, 2, 3, 4, 5, 7, 'f', '5', 0x80, 0xff};
+    uint8_t draft[MOST_INPUT + CELL] = {0}, state[STATE];
+    size_t i, at, length, n;
+    memcpy(state, composition, STATE);
+    if (one_in(3))
+        odd_composition(state);
+    length = draft_of(state, draft);
+    at = one_in(2) ? below((uint32_t)length) : one_in(2) ? below(BEFORE_CELLS) : length - 1 - below(4);
+    switch (below(14)) {
+    case 0:
+        length = one_in(3) ? 0 : at;
+        break;
+    case 1:
+        memmove(draft + at + 1, draft + at, length++ - at);
+        break;
+    case 2:
+        memmove(draft + at, draft + at + 1, --length - at);
+        break;
+    case 3: /* the first cell again and again */
+        for (n = state[2]; n > 0 && n < PASDRONGEL_CELLS + 1 + below(8); n++, length += CELL)
+            memmove(draft + BEFORE_CELLS + CELL, draft + BEFORE_CELLS, length - BEFORE_CELLS);
+        draft[9] = (uint8_t)(CELL * n / 256), draft[10] = (uint8_t)(CELL * n % 256);
+        break;
+    case 4: /* a byte after the last, of any kind */
+        draft[length++] = one_in(2) ? 0 : (uint8_t)below(256);
+        break;
+    case 5: /* a cell has a mark more or less */
+        draft[state[2] > 0 ? BEFORE_CELLS + CELL * below(state[2]) + 4 : at] ^= 1;
+        break;
+    case 6:
+        draft[at] = one_in(2) ? edges[below(sizeof edges)] : (uint8_t)below(256);
+        break;
+    default:
+        break;
+    }
+    for (i = 0; i < length; i++)
+        g->input[i] = draft[i];
+    g->length = length;
+}
+
 /* What a host gives to undo: the keys of the session, and after them those of a cell that has a tone or a mark, of which
  * the last is the trigger. */
 static void to_undo(struct given *g)
@@ -676,7 +839,9 @@ static void prepare(const struct kind *kind, struct given *g)
     }
     g->b = one_in(4) ? any_number() : a_key();
     g->c = one_in(4) ? any_number() : a_key();
-    if (kind->input == 1)
+    if (kind->call == call_read_draft)
+        some_draft(g);
+    else if (kind->input == 1)
         some_bytes(g);
     else if (kind->input == 4 && (kind->use == NO_STATE || one_in(3)))
         some_letters(g);

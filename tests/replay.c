@@ -333,10 +333,23 @@ static int replay_next_word(void)
         PASDRONGEL_REFUSAL(pasdrongel_next_word(word.items, word.length, output + MARGIN, room, &count)));
 }
 
+/* A lent draft, with guarded bytes around it. */
+static uint8_t draft[MOST + 2 * MARGIN];
+
+/* Does the draft have the bytes at its start, and all else as it was? */
+static int draft_has(const struct list *bytes)
+{
+    size_t i;
+    for (i = 0; i < MOST + 2 * MARGIN; i++)
+        if (draft[i] != (i >= MARGIN && i - MARGIN < bytes->length ? bytes->items[i - MARGIN] : GUARD_BYTE))
+            return 0;
+    return 1;
+}
+
 /* A session: the bytes of its composition, with guarded ones around, and what the last call left. */
 static struct {
     uint8_t bytes[MOST + 2 * MARGIN], before[MOST + 2 * MARGIN];
-    size_t length, room;
+    size_t length, room, draft_room;
     const char *call; /* the last one */
     uint32_t refusal, number;
     size_t cells;
@@ -406,6 +419,7 @@ static void read_composition(uint8_t *bytes, const char *stop)
 static void lend(const char *call)
 {
     lend_output();
+    memset(draft, GUARD_BYTE, sizeof draft);
     session.call = call;
     session.number = GUARD;
     session.cells = GUARD;
@@ -441,6 +455,18 @@ static uint32_t undo(void)
     return pasdrongel_undo(session.bytes + MARGIN, session.length, trigger, raw.items, raw.length, &session.number);
 }
 
+/* `read_draft 01 00 .. ;`: bytes up to the semicolon. */
+static uint32_t read_draft(void)
+{
+    static uint8_t bytes[MOST];
+    struct list given;
+    size_t i;
+    read_list(&given, ";");
+    for (i = 0; i < given.length; i++)
+        bytes[i] = (uint8_t)given.items[i];
+    return pasdrongel_read_draft(bytes, given.length, session.bytes + MARGIN, session.length);
+}
+
 /* A call of a session by its name; the keys are no call of their own. */
 static uint32_t session_call(const char *name)
 {
@@ -467,6 +493,10 @@ static uint32_t session_call(const char *name)
         return pasdrongel_set_capitals(state, length, (uint32_t)read_number());
     if (strcmp(name, "undo") == 0)
         return undo();
+    if (strcmp(name, "write_draft") == 0)
+        return pasdrongel_write_draft(state, length, draft + MARGIN, session.draft_room, &count);
+    if (strcmp(name, "read_draft") == 0)
+        return read_draft();
     if (strcmp(name, "check_composition") == 0)
         return pasdrongel_check_composition(state, length);
     if (strcmp(name, "method") == 0)
@@ -493,7 +523,7 @@ static void session_step(const char *word)
         read_bracketed(&keys);
         press(&keys);
     } else if (strcmp(word, "room") == 0) {
-        session.room = read_number();
+        session.room = session.draft_room = read_number();
     } else if (strcmp(word, "poke") == 0) {
         size_t place = read_number();
         state[place] = (uint8_t)read_number();
@@ -510,16 +540,17 @@ static void session_step(const char *word)
 /* `session STEPS = ANSWER / COMPOSITION`: the answer of the last call, and what it leaves. */
 static int replay_session(void)
 {
-    struct list text;
+    struct list text, bytes;
     size_t expected_count = GUARD, expected_cells = GUARD;
     uint32_t expected_refusal = 0, expected_number = GUARD;
     const char *word;
     memset(session.bytes, GUARD_BYTE, sizeof session.bytes);
     session.length = COMPOSITION_BYTES;
     session.room = ROOM;
+    session.draft_room = PASDRONGEL_DRAFT_ROOM;
     while (strcmp(word = next_word(), "=") != 0)
         session_step(word);
-    text.length = 0;
+    text.length = bytes.length = 0;
     word = next_word();
     if (strcmp(word, "refused") == 0) {
         expected_refusal = (uint32_t)read_number();
@@ -527,6 +558,10 @@ static int replay_session(void)
         if (strcmp(word, "[") == 0) {
             read_bracketed(&text);
             expected_count = text.length;
+        } else if (strcmp(session.call, "write_draft") == 0) {
+            for (; strcmp(word, ";") != 0; word = next_word())
+                add_item(&bytes, word);
+            expected_count = bytes.length;
         } else if (strcmp(word, "append") == 0 || strcmp(word, "consume") == 0) {
             expected_number = word[0] == 'c';
         } else if (word[0] >= '0' && word[0] <= '9' && strcmp(session.call, "count") == 0) {
@@ -540,7 +575,8 @@ static int replay_session(void)
         read_composition(session.before + MARGIN, NULL);
     }
     return session.refusal == expected_refusal && session.number == expected_number && session.cells == expected_cells
-        && count == expected_count && output_has(&text) && memcmp(session.bytes, session.before, sizeof session.bytes) == 0;
+        && count == expected_count && output_has(&text) && draft_has(&bytes)
+        && memcmp(session.bytes, session.before, sizeof session.bytes) == 0;
 }
 
 static const struct {

@@ -1,12 +1,13 @@
 -- Tests of two things, and of each of a list, taken apart and put together.
-use Prim.Native.Nat.{ℕ, zero, suc, _+_, _<_, _≤_}
-use mathlib.Core.Path.{_≡_, refl}
-use mathlib.Core.Bool.{Bool, true, false}
+use Prim.Native.Nat.{ℕ, zero, suc, _+_, _-_, _<_, _≤_}
+use mathlib.Core.Path.{_≡_, refl, sym, _∙_}
+use mathlib.Core.Bool.{Bool, true, false, not}
 use mathlib.Core.List.{List, [], _∷_, _++_}
 use mathlib.Core.Logic.{_⊎_, inl, inr}
 use native.Mathlib.Omega.{arith}
 use lib.Dec.{T}
 use lib.ListN.{length, getD, take, set}
+use borrow.Author.Tests.{not-true, not-false}
 use Rattle.p0_choice.specs.Choice.{pick, each, from}
 
 pub both-are : (a b : Bool) → pick a b false ≡ true → (a ≡ true) × (b ≡ true)
@@ -31,6 +32,29 @@ holds b e = rw e tt
 pub each-from : (p : ℕ → Bool) (n i : ℕ) → ((j : ℕ) → i ≤ j → j < i + n → p j ≡ true) → each p (from n i) ≡ true
 each-from p zero i f = refl
 each-from p (suc n) i f = rw (f i (omega arith) (omega arith)) (each-from p n (suc i) (λ j l h. f j (omega arith) (omega arith)))
+
+-- a loop that tests n numbers one by one: w is the test of them all, and what is left of them decides it
+module _ (p : ℕ → Bool) (n : ℕ) (w : Bool) where
+  pub each-start : w ≡ each p (from n 0) → w ≡ each p (from (n - 0) 0)
+  each-start e = let d : n - 0 ≡ n = omega arith in rw d e
+
+  module _ (i : ℕ) (e : w ≡ each p (from (n - i) i)) where
+    turn : i < n → w ≡ pick (p i) (each p (from (n - (i + 1)) (i + 1))) false
+    turn h =
+        let d : n - i ≡ suc (n - (i + 1)) = omega arith in
+        let s : i + 1 ≡ suc i = omega arith in
+        e ∙ rw (d, s) refl
+
+    pub each-bad : (v : Bool) → i < n → v ≡ p i → not v ≡ true → false ≡ w
+    each-bad v h q t = sym (turn h ∙ rw (← q, not-true v t) refl)
+
+    pub each-on : (v : Bool) → i < n → v ≡ p i → not v ≡ false → w ≡ each p (from (n - (i + 1)) (i + 1))
+    each-on v h q t = turn h ∙ rw (← q, not-false v t) refl
+
+    pub each-done : n ≤ i → true ≡ w
+    each-done h = let d : n - i ≡ 0 = omega arith in sym (e ∙ rw d refl)
+
+pub ruleset tested = (each-start, each-bad, each-on, each-done)
 
 -- ---- each of a list, by its places, and after a change
 module _ {A : Type 0} (p : A → Bool) where

@@ -9,7 +9,7 @@ pub const LETTERS: usize = 64;
 // The most bytes to be read as UTF-8; `byteLimit` says the same.
 pub const BYTES: usize = 256;
 
-// Why a call refuses: a row of document 01's table each, in its order.
+// Why a call refuses: a row of document 01's table each, in its order, and then those that requests of document 02 add to it.
 pub enum Refusal {
     // a code point outside the alphabet
     Foreign,
@@ -31,6 +31,8 @@ pub enum Refusal {
     NoMethod,
     // composition not sound
     Unsound,
+    // 2026-02: the bytes are no draft of a sound composition
+    NoDraft,
 }
 
 // The refusal's number, as a host sees it.
@@ -48,6 +50,7 @@ pub fn number(refusal: Refusal) -> u32
         Refusal::Malformed => 8,
         Refusal::NoMethod => 9,
         Refusal::Unsound => 10,
+        Refusal::NoDraft => 11,
     }
 }
 

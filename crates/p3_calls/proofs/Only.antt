@@ -3,6 +3,9 @@ use mathlib.Core.Path.{refl}
 use Rattle.p0_choice.proofs.Only.{OneAnswer, alike}
 use Rattle.p3_calls.proofs as own
 
+pub empty-only : OneAnswer own.empty.Kinds.ps own.empty.Kinds.r own.empty.Reads.Asked own.empty.Reads.Learnt
+empty-only κs a = (tt, λ z z′ w w′ q q′. (alike q q′, refl))
+
 pub new-only : OneAnswer own.new.Kinds.ps own.new.Kinds.r own.new.Reads.Asked own.new.Reads.Learnt
 new-only κs a = (tt, λ z z′ w w′ q q′. (alike q q′, refl))
 

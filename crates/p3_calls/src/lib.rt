@@ -29,7 +29,7 @@ fn refuse(c: Composition, why: Refusal) -> After
     }
 }
 
-fn empty(settings: Settings) -> Composition
+pub fn empty(settings: Settings) -> Composition
     ensures { λ r. ⌜ r ≡ composed settings [] ⌝ }
 {
     let z = cells::blank();

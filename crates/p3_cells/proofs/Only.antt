@@ -9,6 +9,12 @@ blank-only κs a = (tt, λ z z′ w w′ q q′. (alike q q′, refl))
 pub typed-only : OneAnswer own.typed.Kinds.ps own.typed.Kinds.r own.typed.Reads.Asked own.typed.Reads.Learnt
 typed-only κs a = (tt, λ z z′ w w′ q q′. (alike q q′, refl))
 
+pub is-mark-only : OneAnswer own.is_mark.Kinds.ps own.is_mark.Kinds.r own.is_mark.Reads.Asked own.is_mark.Reads.Learnt
+is-mark-only κs a = (tt, λ z z′ w w′ q q′. (alike q q′, refl))
+
+pub tone-fits-only : OneAnswer own.tone_fits.Kinds.ps own.tone_fits.Kinds.r own.tone_fits.Reads.Asked own.tone_fits.Reads.Learnt
+tone-fits-only κs a = (tt, λ z z′ w w′ q q′. (alike q q′, refl))
+
 pub is-cell-only : OneAnswer own.is_cell.Kinds.ps own.is_cell.Kinds.r own.is_cell.Reads.Asked own.is_cell.Reads.Learnt
 is-cell-only κs a = (tt, λ z z′ w w′ q q′. (alike q q′, refl))
 

@@ -84,7 +84,7 @@ pub fn typed(ch: u32) -> Cell
 // ---- soundness
 
 // One of ă â ê ô ơ ư đ.
-fn is_mark(m: u16) -> bool
+pub fn is_mark(m: u16) -> bool
     ensures { λ r. ⌜ r ≡ among m marks ⌝ }
 {
     match m {
@@ -94,7 +94,7 @@ fn is_mark(m: u16) -> bool
 }
 
 // No tone, or a tone key of either method.
-fn tone_fits(x: Cell) -> bool
+pub fn tone_fits(x: Cell) -> bool
     ensures { λ r. ⌜ r ≡ toneFits x ⌝ }
 {
     if x.tone == 0 {

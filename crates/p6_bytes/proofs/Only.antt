@@ -6,6 +6,12 @@ use Rattle.p6_bytes.proofs as own
 pub bytes-ok-only : OneAnswer own.bytes_ok.Kinds.ps own.bytes_ok.Kinds.r own.bytes_ok.Reads.Asked own.bytes_ok.Reads.Learnt
 bytes-ok-only κs a = (tt, λ z z′ w w′ q q′. (alike q q′, refl))
 
+pub method-of-only : OneAnswer own.method_of.Kinds.ps own.method_of.Kinds.r own.method_of.Reads.Asked own.method_of.Reads.Learnt
+method-of-only κs a = (tt, λ z z′ w w′ q q′. (alike q q′, refl))
+
+pub mode-of-only : OneAnswer own.mode_of.Kinds.ps own.mode_of.Kinds.r own.mode_of.Reads.Asked own.mode_of.Reads.Learnt
+mode-of-only κs a = (tt, λ z z′ w w′ q q′. (alike q q′, refl))
+
 pub settings-only : OneAnswerAsked own.settings.Kinds.ps own.settings.Kinds.r own.settings.Reads.Asked own.settings.Reads.Learnt
 settings-only κs a asked z z′ w w′ q q′ = (alike q q′, refl)
 
@@ -26,6 +32,9 @@ capitals-number-only κs a asked z z′ w w′ q q′ = (alike q q′, refl)
 
 pub cell-count-only : OneAnswerAsked own.cell_count.Kinds.ps own.cell_count.Kinds.r own.cell_count.Reads.Asked own.cell_count.Reads.Learnt
 cell-count-only κs a asked z z′ w w′ q q′ = (alike q q′, refl)
+
+pub flag-byte-only : OneAnswer own.flag_byte.Kinds.ps own.flag_byte.Kinds.r own.flag_byte.Reads.Asked own.flag_byte.Reads.Learnt
+flag-byte-only κs a = (tt, λ z z′ w w′ q q′. (alike q q′, refl))
 
 pub cell-only : OneAnswerAsked own.cell.Kinds.ps own.cell.Kinds.r own.cell.Reads.Asked own.cell.Reads.Learnt
 cell-only κs a asked z z′ w w′ q q′ = (alike q q′, refl)

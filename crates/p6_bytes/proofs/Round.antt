@@ -27,11 +27,11 @@ use Rattle.p6_bytes.proofs.Writing.{cell-length, bytes-length}
 use Rattle.p6_bytes.proofs.Sound.{sound-size, sound-method, sound-mode, sound-capitals, sound-reserved, sound-flag}
 
 -- ---- read back
-flag-back : (t : Bool) → eqb (flagByte t) 1 ≡ t
+pub flag-back : (t : Bool) → eqb (flagByte t) 1 ≡ t
 flag-back true = refl
 flag-back false = refl
 
-flag-small : (t : Bool) → flagByte t ≤ 1
+pub flag-small : (t : Bool) → flagByte t ≤ 1
 flag-small true = omega arith
 flag-small false = omega arith
 
@@ -40,7 +40,7 @@ unfolding methodOf
 method-back Telex = refl
 method-back Vni = refl
 
-mode-back : (o : Mode) → modeOf (modeByte o) ≡ o
+pub mode-back : (o : Mode) → modeOf (modeByte o) ≡ o
 unfolding modeOf
 mode-back Vietnamese = refl
 mode-back English = refl
@@ -105,14 +105,14 @@ read-written c n =
     rw (k, method-back (c .settings .method), mode-back (c .settings .mode), flag-back (c .settings .capitals)) refl
 
 module _ (c : Composition) where
-  method-small : methodByte (c .settings .method) ≤ 1
+  pub method-small : methodByte (c .settings .method) ≤ 1
   method-small = go (c .settings .method)
     where
       go : (m : InputMethod) → methodByte m ≤ 1
       go Telex = omega arith
       go Vni = omega arith
 
-  mode-small : modeByte (c .settings .mode) ≤ 1
+  pub mode-small : modeByte (c .settings .mode) ≤ 1
   mode-small = go (c .settings .mode)
     where
       go : (o : Mode) → modeByte o ≤ 1

@@ -1,12 +1,12 @@
 -- The loops of the test: what is left decides.
-use Prim.Native.Nat.{ℕ, suc, _+_, _-_, _≤_, _<_}
+use Prim.Native.Nat.{ℕ, _+_, _≤_, _<_}
 use mathlib.Core.Path.{_≡_, refl, sym, ap, _∙_}
-use mathlib.Core.Bool.{Bool, true, false, not}
+use mathlib.Core.Bool.{Bool, true, false}
 use mathlib.Core.List.{List}
 use mathlib.Core.Logic.{inl}
 use native.Mathlib.Omega.{arith}
 use lib.Dec.{eqb, ltb, leb}
-use borrow.Author.Tests.{ne-eqb, eqb-true, eqb-false, lt-ltb, le-ltb, le-leb, lt-leb, leb-true, leb-false, not-true, not-false}
+use borrow.Author.Tests.{ne-eqb, eqb-true, eqb-false, lt-ltb, le-ltb, le-leb, lt-leb, leb-true, leb-false}
 use mir.Syntax.{w8}
 use mir.Val.{Fits}
 use Rattle.p0_choice.specs.Choice.{pick, each, from as numbers}
@@ -19,15 +19,6 @@ use Rattle.p6_bytes.specs.Bytes.{cellAt, start, spellsCell, reservedZero
 use Rattle.p6_zeros.specs.Zeros.{byteAt, isZero}
 use Rattle.p6_bytes.specs.Mirror.{restFits, cellFits, cellsFit}
 use Rattle.p6_zeros.specs.Mirror.{longAt}
-
-turn : (p : ℕ → Bool) (n i : ℕ) → i < n → each p (numbers (n - i) i) ≡ pick (p i) (each p (numbers (n - (i + 1)) (i + 1))) false
-turn p n i h =
-    let d : n - i ≡ suc (n - (i + 1)) = omega arith in
-    let e : i + 1 ≡ suc i = omega arith in
-    rw (d, e)
-
-end : (p : ℕ → Bool) (n i : ℕ) → n ≤ i → each p (numbers (n - i) i) ≡ true
-end p n i h = let d : n - i ≡ 0 = omega arith in rw d
 
 -- ---- the head past the count
 whole : (t : Bool) → pick t true false ≡ t
@@ -63,7 +54,7 @@ rest-below b f w p =
     below b f w _ _ p refl refl ∙ ap (λ (t : Bool). pick (leb (byteAt b 3) 1) t false) (sym (reserved b))
 
 -- ---- one cell
-ascii-cell : (x : Cell) → x .base < 128 → x .mark ≡ 0 → x .tone ≡ 0 → isCell x ≡ true
+pub ascii-cell : (x : Cell) → x .base < 128 → x .mark ≡ 0 → x .tone ≡ 0 → isCell x ≡ true
 unfolding inAlphabet
 ascii-cell x b m t = is-cell x (record { base = rw (lt-ltb (x .base) 0x80 b) refl; mark = inl m; tone = inl t })
 
@@ -90,16 +81,6 @@ module _ (b : List ℕ) (i : ℕ) where
   flag-on r x h = flag-fits r x (omega arith)
 
 -- ---- the cells in use
-pub fit-start : (b : List ℕ) (n : ℕ) → cellsFit b n ≡ each (cellFits b) (numbers (n - 0) 0)
+pub fit-is : (b : List ℕ) (n : ℕ) → cellsFit b n ≡ each (cellFits b) (numbers n 0)
 unfolding cellsFit
-fit-start b n = let d : n - 0 ≡ n = omega arith in rw d
-
-module _ (b : List ℕ) (n i : ℕ) (e : cellsFit b n ≡ each (cellFits b) (numbers (n - i) i)) where
-  pub fit-bad : (v : Bool) → i < n → v ≡ cellFits b i → not v ≡ true → false ≡ cellsFit b n
-  fit-bad v h p t = rw (e, turn (cellFits b) n i h, ← p, not-true v t)
-
-  pub fit-on : (v : Bool) → i < n → v ≡ cellFits b i → not v ≡ false → cellsFit b n ≡ each (cellFits b) (numbers (n - (i + 1)) (i + 1))
-  fit-on v h p t = rw (e, turn (cellFits b) n i h, ← p, not-false v t)
-
-  pub fit-done : n ≤ i → true ≡ cellsFit b n
-  fit-done h = sym (e ∙ end (cellFits b) n i h)
+fit-is b n = refl

@@ -131,7 +131,7 @@ pub fn bytes_ok(b: &[u8]) -> bool
 
 // ---- its settings and numbers, each of which is one byte
 
-fn method_of(x: u8) -> InputMethod
+pub fn method_of(x: u8) -> InputMethod
     ensures { λ r. ⌜ r ≡ methodOf x ⌝ }
 {
     if x == 0 {
@@ -140,7 +140,7 @@ fn method_of(x: u8) -> InputMethod
     InputMethod::Vni
 }
 
-fn mode_of(x: u8) -> Mode
+pub fn mode_of(x: u8) -> Mode
     ensures { λ r. ⌜ r ≡ modeOf x ⌝ }
 {
     if x == 0 {
@@ -205,7 +205,7 @@ pub fn cell_count(b: &[u8]) -> usize
 
 // ---- writing
 
-fn flag_byte(on: bool) -> u8
+pub fn flag_byte(on: bool) -> u8
     ensures { λ r. ⌜ r ≡ flagByte on ⌝ }
 {
     if on {

@@ -18,11 +18,13 @@ use Rattle.p5_utf8_text.specs.Read.{reading}
 use Rattle.p5_utf8_text.specs.Write.{writing}
 use Rattle.p6_composition.specs.Calls.{answerOn, bytesOn, keyOn, resetOn, literalOn, removalOn, undoOn, methodOn, modeOn, capitalsOn}
 use Rattle.p6_composition.specs.Calls.{textOn}
+use Rattle.p6_draft_calls.specs.Calls.{bytesOutcome}
 use Rattle.p6_host.specs.Counts.{countOut}
 use Rattle.p6_host.proofs.Refused.{letter-kept, tone-kept, method-key-kept, mark-kept, sound-kept, onset-kept, vowels-kept}
 use Rattle.p6_host.proofs.Refused.{verdict-kept, count-kept, behaviour-kept, output-kept, bytes-kept, new-kept, text-out-kept}
-use Rattle.p6_host.proofs.Refused.{removal-out-kept, key-out-kept}
+use Rattle.p6_host.proofs.Refused.{removal-out-kept, key-out-kept, reading-kept}
 use Rattle.p6_host.proofs.composition as composition
+use Rattle.p6_host.proofs.drafts as drafts
 use Rattle.p6_host.proofs.input_method as method
 use Rattle.p6_host.proofs.letters as letters
 use Rattle.p6_host.proofs.lister as lister
@@ -149,6 +151,9 @@ word-keeps κs a z w q h = lent-output (a .0) (a .1 .0) (a .1 .1 .0) (q .0) (q .
 pub next-word-keeps : Keeps lister.pasdrongel_next_word.Kinds.ps lister.pasdrongel_next_word.Reads.Learnt (λ κs a. a)
 next-word-keeps κs a z w q h = lent-output (a .0) (a .1 .0) (a .1 .1 .0) (q .0) (q .2, (q .3, q .4)) h
 
+pub write-draft-keeps : Keeps drafts.pasdrongel_write_draft.Kinds.ps drafts.pasdrongel_write_draft.Reads.Learnt (λ κs a. a)
+write-draft-keeps κs a z w q h = lent-output (a .0) (a .1 .0) (a .1 .1 .0) (bytesOutcome (a .0 .now)) q h
+
 pub text-keeps : Keeps composition.pasdrongel_text.Kinds.ps composition.pasdrongel_text.Reads.Learnt (λ κs a. a)
 text-keeps κs a z w q h =
     let g = textOn (a .0 .now) (length (a .1 .0 .now)) in
@@ -162,6 +167,9 @@ module _ {A : Type 0} (p : RefT (List ℕ)) (x : A) (k : After) {z : ℕ} {w : L
 
 pub new-keeps : Keeps composition.pasdrongel_new.Kinds.ps composition.pasdrongel_new.Reads.Learnt (λ κs a. a)
 new-keeps κs a z w q h = lent (a .0) (new-kept (a .0 .now) (a .1 .0)) q h refl
+
+pub read-draft-keeps : Keeps drafts.pasdrongel_read_draft.Kinds.ps drafts.pasdrongel_read_draft.Reads.Learnt (λ κs a. a)
+read-draft-keeps κs a z w q h = beside (a .0) (lent (a .1 .0) (reading-kept (q .0) (a .1 .0 .now)) (q .2, q .3) h refl)
 
 pub literal-keeps : Keeps composition.pasdrongel_literal.Kinds.ps composition.pasdrongel_literal.Reads.Learnt (λ κs a. a)
 literal-keeps κs a z w q h = lent-bytes (a .0) (a .1) (literalOn (a .0 .now) (a .1 .0)) q h

@@ -9,6 +9,7 @@ header = record {
   compositionBytes = refl;
   cells = refl;
   textRoom = refl;
+  draftRoom = refl;
   listedRoom = refl;
   readRoom = refl;
   writeRoom = refl;

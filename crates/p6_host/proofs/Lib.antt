@@ -1,9 +1,11 @@
 pub mod Demand1
 pub mod Header
 pub mod LetterCalls
+pub mod DraftCalls
 pub mod ListerCalls
 pub mod MethodCalls
 pub mod Only
 pub mod Refused
 pub mod SpellerCalls
 pub mod Told
+pub mod DraftRound

@@ -6,6 +6,9 @@ use lib.ListN.{length}
 use Rattle.p0_refusals.specs.Answers.{Outcome, refusalOf, answer, output}
 use Rattle.p0_choice.proofs.Only.{OneAnswer}
 use Rattle.p5_lister.proofs.Meaning.{one-number-outcome, one-next-outcome}
+use Rattle.p6_draft.specs.Draft.{Reading, Means}
+use Rattle.p6_draft.proofs.Exact.{one-reading}
+use Rattle.p6_draft_calls.specs.Calls.{readOn, readBytes}
 use Rattle.p6_host.specs.Counts.{countOut}
 use Rattle.p6_host.proofs.composition.pasdrongel_composition_bytes as composition-bytes
 use Rattle.p6_host.proofs.composition.pasdrongel_new as new
@@ -23,6 +26,8 @@ use Rattle.p6_host.proofs.composition.pasdrongel_reset as reset
 use Rattle.p6_host.proofs.composition.pasdrongel_set_method as set-method
 use Rattle.p6_host.proofs.composition.pasdrongel_set_mode as set-mode
 use Rattle.p6_host.proofs.composition.pasdrongel_set_capitals as set-capitals
+use Rattle.p6_host.proofs.drafts.pasdrongel_write_draft as write-draft
+use Rattle.p6_host.proofs.drafts.pasdrongel_read_draft as read-draft
 use Rattle.p6_host.proofs.input_method.pasdrongel_is_tone_key as is-tone-key
 use Rattle.p6_host.proofs.input_method.pasdrongel_is_horn_key as is-horn-key
 use Rattle.p6_host.proofs.input_method.pasdrongel_mark_for as mark-for
@@ -144,6 +149,24 @@ read-utf8-only κs a = (tt, two-lent)
 
 pub write-utf8-only : OneAnswer write-utf8.Kinds.ps write-utf8.Kinds.r write-utf8.Reads.Asked write-utf8.Reads.Learnt
 write-utf8-only κs a = (tt, two-lent)
+
+pub write-draft-only : OneAnswer write-draft.Kinds.ps write-draft.Kinds.r write-draft.Reads.Asked write-draft.Reads.Learnt
+write-draft-only κs a = (tt, two-lent)
+
+-- a draft that is read: what its bytes are a draft of is one thing
+module _ (b s : List ℕ) where
+  abbrev ToldDraft : ℕ → Unit {0} × (List ℕ × Unit {0}) → Type 0
+  ToldDraft z w = (u : Reading) × Means b u × (z ≡ refusalOf (readOn u s)) × (w .1 .0 ≡ readBytes u s)
+
+  one-draft-read : (z z′ : ℕ) (w w′ : Unit {0} × (List ℕ × Unit {0})) → ToldDraft z w → ToldDraft z′ w′ → (z ≡ z′) × (w ≡ w′)
+  one-draft-read z z′ w w′ q q′ =
+      let e : q .0 ≡ q′ .0 = one-reading b (q .0) (q′ .0) (q .1) (q′ .1) in
+      let number = q .2 ∙ ap (λ u. refusalOf (readOn u s)) e ∙ sym (q′ .2) in
+      let state = q .3 ∙ ap (λ u. readBytes u s) e ∙ sym (q′ .3) in
+      (number, λ i. (tt, (state i, tt)))
+
+pub read-draft-only : OneAnswer read-draft.Kinds.ps read-draft.Kinds.r read-draft.Reads.Asked read-draft.Reads.Learnt
+read-draft-only κs a = (tt, one-draft-read (a .0 .now) (a .1 .0 .now))
 
 -- a listed word: what there is to write is one thing
 module _ (Means : Outcome → Type 0) (one : (u v : Outcome) → Means u → Means v → u ≡ v) (o : List ℕ) (old : ℕ) where

@@ -23,6 +23,8 @@ use Rattle.p4_spelling.specs.declared.Verdict.{Verdict}
 use Rattle.p4_spelling.specs.declared.Verdict.the-variants as Verdicts
 use Rattle.p6_bytes.specs.Bytes.{bytesOf, bytesSound, compositionOf}
 use Rattle.p6_composition.specs.Calls.{answerOn, bytesOn, outOn, keyOn, removalOn, textOn, newOn, newBytes}
+use Rattle.p6_draft.specs.Draft.{Reading}
+use Rattle.p6_draft_calls.specs.Calls.{readOn, readBytes}
 use Rattle.p6_host.specs.CompositionCalls.{soundCode, soundOut}
 use Rattle.p6_host.specs.Counts.{countOut, behaviourOut}
 use Rattle.p6_host.specs.LetterCalls.{letterCode, letterOut, toneCode, toneOut}
@@ -112,3 +114,8 @@ module _ (b o : List ℕ) where
   pub key-out-kept : (key : ℕ) → (refusalOf (answerOn b (keyOn b key o)) ≡ 0 → ⊥) → outOn b (keyOutcome (compositionOf b) key) o ≡ o
   unfolding answerOn outOn keyOn keyed leaving
   key-out-kept key h = out-kept (bytesSound b) (keyOutcome (compositionOf b) key) o h
+
+-- ---- a draft that is read
+pub reading-kept : (u : Reading) (b : List ℕ) → (refusalOf (readOn u b) ≡ 0 → ⊥) → readBytes u b ≡ b
+unfolding readBytes
+reading-kept u b h = unless-kept (readOn u b) b _ h

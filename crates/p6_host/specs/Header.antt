@@ -6,6 +6,7 @@ use Rattle.p3_cells.specs.Cells.{limit}
 use Rattle.p4_spelling.specs.Verdict.{longestLength}
 use Rattle.p5_utf8_text.specs.Write.{writeRoom}
 use Rattle.p6_bytes.specs.Bytes.{size}
+use Rattle.p6_draft.specs.Draft.{draftRoom}
 
 pub record Header : Type 0 where
   pub wordLetters : letterLimit ≡ 64
@@ -13,6 +14,7 @@ pub record Header : Type 0 where
   pub compositionBytes : size ≡ 264
   pub cells : limit ≡ 32
   pub textRoom : limit ≡ 32
+  pub draftRoom : draftRoom ≡ 239
   pub listedRoom : longestLength ≡ 8
   pub readRoom : byteLimit ≡ 256
   pub writeRoom : writeRoom ≡ 192

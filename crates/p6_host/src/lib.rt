@@ -3,6 +3,7 @@
 // All exports stand in this one crate, a module for each subject: the archive has this crate's alone.
 pub mod answers;
 pub mod composition;
+pub mod drafts;
 pub mod input_method;
 pub mod letters;
 pub mod lister;

@@ -53,6 +53,7 @@ pub fn put_refused(refusal: Refusal, out: &mut [u8], at: usize) -> usize
         Refusal::Malformed => slices::put(b"refused 8\n", out, at),
         Refusal::NoMethod => slices::put(b"refused 9\n", out, at),
         Refusal::Unsound => slices::put(b"refused 10\n", out, at),
+        Refusal::NoDraft => slices::put(b"refused 11\n", out, at),
     }
 }
 

@@ -3,7 +3,8 @@ use Prim.Native.Nat.{_≤_, _-_}
 use mathlib.Core.Path.{_≡_}
 use Rattle.p0_choice.specs.Choice.{each, from as numbers}
 use Rattle.p6_bytes.specs.Mirror.{cellFits, cellsFit}
-use Rattle.p6_bytes.proofs.Tests.{fit-start, fit-bad, fit-on, fit-done}
+use Rattle.p0_choice.proofs.Tests.{tested}
+use Rattle.p6_bytes.proofs.Tests.{fit-is}
 use Rattle.p6_bytes.proofs.cells_fit.Statement.{statement}
 use Rattle.p6_bytes.proofs.cells_fit.Tie as tie
 
@@ -13,7 +14,7 @@ Inv-loop b n i₀ i = (i ≤ n) × (cellsFit b n ≡ each (cellFits b) (numbers 
 abbrev μ-loop : tie.MeasureT-loop
 μ-loop b n i₀ i = n - i
 
-ruleset answers = (needs, fit-start, fit-bad, fit-on, fit-done)
+ruleset answers = (needs, tested, fit-is)
 
 pub cells-fit-spec : {M : Type 1} → statement M
 cells-fit-spec =

@@ -1,0 +1,9 @@
+pub mod Put
+pub mod Writing
+pub mod Reading
+pub mod Tests
+pub mod Round
+pub mod Exact
+pub mod Example
+pub mod Room
+pub mod Only

@@ -1,0 +1,13 @@
+use borrow.Author.Needs.{needs}
+use Rattle.p6_draft.proofs.Writing.{head-put}
+use Rattle.p6_draft.proofs.put_head.Statement.{statement}
+use Rattle.p6_draft.proofs.put_head.Tie as tie
+
+ruleset answers = (needs, head-put)
+
+pub put-head-spec : {M : Type 1} → statement M
+put-head-spec =
+    tie.close
+    (tie.spec
+    (λ c κs. search answers) (λ c κs. search answers) (λ c. search answers) (λ c. search answers) (λ c κs. search answers)
+    (λ c. search answers) (λ c. search answers))

@@ -1,0 +1,5 @@
+pub mod Writing
+pub mod Filling
+pub mod Reading
+pub mod Room
+pub mod Only
