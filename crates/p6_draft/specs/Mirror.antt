@@ -1,6 +1,6 @@
 -- How the code holds things: no sentence of document 01 stands here, and no promise to a host leads here.
--- What the reader makes of bytes, and the tests that it makes. proofs/Read.antt shows that the tests pass exactly the drafts of sound
--- compositions, and that each is read as the composition that was written.
+-- What the reader makes of bytes, and the tests that it makes. proofs/Round.antt and proofs/Exact.antt show that the tests pass exactly
+-- the drafts of sound compositions, and that each is read as the composition that was written.
 use Prim.Native.Nat.{ℕ, zero, suc, _+_, _*_, _-_, _/_, _%_}
 use mathlib.Core.Bool.{Bool, false}
 use mathlib.Core.List.{List, [], _∷_, _++_}
