@@ -2,15 +2,17 @@
 -- arm knows of each earlier one that x is none of its keys (`c .match .rest`, the pairs `Missed`).
 use mathlib.Core.Path.{_≡_, refl, sym, ap, _∙_}
 use mathlib.Core.Bool.{Bool, true, false}
-use mathlib.Core.List.{List, [], _∷_}
+use mathlib.Core.List.{List, [], _∷_, map}
 use mathlib.Core.Logic.{inl, inr, ⊎-elim}
-use Prim.Native.Nat.{ℕ}
+use Prim.Native.Nat.{ℕ, _≤_, _<_}
+use native.Mathlib.Omega.{arith}
 use lib.Dec.{T, eqb}
 use types.Run.{OneOf}
 use borrow.Author.Tests.{eqb-true}
-use Rattle.p0_choice.specs.Choice.{pick, among, each}
+use Rattle.p0_choice.specs.Choice.{pick, among, each, from}
 use Rattle.p0_choice.proofs.Choices.{pick-false, pick-eq, pick-ne}
-use Rattle.p0_choice.proofs.Tables.{pick-first, pick-second, each-among}
+use Rattle.p0_choice.proofs.Tables.{pick-first, pick-second, each-among, among-count}
+use Rattle.p0_choice.proofs.Numbers.{below-or-not}
 
 -- an arm of one key: what is right at the key, by computation, is right
 pub arm : {A : Type 0} (f : ℕ → A) (r : A) (x k : ℕ) → x ≡ k → r ≡ f k → r ≡ f x
@@ -77,3 +79,29 @@ pub rest-among : (N : Type 0) (ys : List ℕ) (kss : List (List ℕ)) (x : ℕ) 
 rest-among N ys kss x m t =
     sym (not-yes (among x ys) (amongAny x kss)
     (λ (e : among x ys ≡ true). each-among (λ (k : ℕ). amongAny k kss) ys t x e) (missed N kss x m))
+
+-- ---- a table: each arm has one key
+abbrev pub single : ℕ → List ℕ
+single k = k ∷ []
+
+any-single : (x : ℕ) (ks : List ℕ) → amongAny x (map single ks) ≡ among x ks
+any-single x [] = refl
+any-single x (k ∷ ks) = rw (any-single x ks) (go (eqb x k))
+  where
+    go : (b : Bool) → pick (pick b true false) true (among x ks) ≡ pick b true (among x ks)
+    go true = refl
+    go false = refl
+
+-- the last arm's number is no key
+pub missed-single : (N : Type 0) (ks : List ℕ) (x : ℕ) → Missed N (map single ks) x → among x ks ≡ false
+missed-single N ks x m = sym (any-single x ks) ∙ missed N (map single ks) x m
+
+-- where the keys are the first n numbers, it is past them
+pub past-table : (N : Type 0) (n x : ℕ) → Missed N (map single (from n 0)) x → n ≤ x
+past-table N n x m =
+    ⊎-elim
+    (λ (h : x < n).
+    let z : _≡_ {A = Bool} true false = sym (among-count n 0 x (omega arith) (omega arith)) ∙ missed-single N (from n 0) x m in
+    let y : _≡_ {A = ℕ} 1 0 = ap (λ (b : Bool). pick b 1 0) z in
+    absurd (omega arith))
+    (λ (h : n ≤ x). h) (below-or-not x n)
