@@ -8,10 +8,9 @@ use Prim.Native.Nat.{ℕ, _≤_, _<_}
 use native.Mathlib.Omega.{arith}
 use lib.Dec.{T, eqb}
 use types.Run.{OneOf}
-use borrow.Author.Tests.{eqb-true}
 use Rattle.p0_choice.specs.Choice.{pick, among, each, from}
-use Rattle.p0_choice.proofs.Choices.{pick-false, pick-eq, pick-ne}
-use Rattle.p0_choice.proofs.Tables.{pick-first, pick-second, each-among, among-count}
+use Rattle.p0_choice.proofs.Choices.{pick-eq, pick-ne}
+use Rattle.p0_choice.proofs.Tables.{each-among, among-count}
 use Rattle.p0_choice.proofs.Numbers.{below-or-not}
 
 -- an arm of one key: what is right at the key, by computation, is right
@@ -33,17 +32,6 @@ pub among-no : (x : ℕ) (ks : List ℕ) → (OneOf ks x → ⊥) → false ≡ 
 among-no x [] h = refl
 among-no x (k ∷ []) h = pick-ne x k false true false h refl
 among-no x (k ∷ (j ∷ ks)) h = pick-ne x k _ _ _ (λ e. h (inl e)) (among-no x (j ∷ ks) (λ t. h (inr t)))
-
-pub pick-none : {A : Type 0} (x : ℕ) (ks : List ℕ) (r a b : A) → (OneOf ks x → ⊥) → r ≡ b → r ≡ pick (among x ks) a b
-pick-none x ks r a b h q = pick-false (among x ks) r a b (sym (among-no x ks h)) q
-
--- an arm of many keys answers r: right where f is r at each of them, a test that computes
-pub arms : (f : ℕ → ℕ) (r x : ℕ) (ks : List ℕ) → OneOf ks x → T (each (λ (k : ℕ). eqb r (f k)) ks) → r ≡ f x
-arms f r x [] h t = absurd h
-arms f r x (k ∷ []) h t = arm f r x k h (eqb-true r (f k) (pick-first (eqb r (f k)) true t))
-arms f r x (k ∷ (j ∷ ks)) h t =
-    ⊎-elim (λ e. arm f r x k e (eqb-true r (f k) (pick-first (eqb r (f k)) _ t)))
-    (λ s. arms f r x (j ∷ ks) s (pick-second (eqb r (f k)) _ t)) h
 
 -- ---- a test by membership in ys, whatever the order of its letters
 -- an arm whose keys are all in ys answers yes

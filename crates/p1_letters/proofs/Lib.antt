@@ -5,5 +5,6 @@ pub mod Words
 pub mod Tones
 pub mod Vowels
 pub mod ToneOn
+pub mod ToneBlock
 pub mod Counts
 pub mod Only

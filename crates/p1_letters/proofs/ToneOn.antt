@@ -24,7 +24,7 @@ module _ (x t : ℕ) (e : among t keys ≡ false) where
   not-one : (ks : List ℕ) → T (each (λ (k : ℕ). among k keys) ks) → among t ks ≡ false
   not-one ks s = not-yes (among t ks) (among t keys) (λ (q : among t ks ≡ true). each-among (λ (k : ℕ). among k keys) ks s t q) e
 
-  no-column : 0 ≡ toneColumn t
+  pub no-column : 0 ≡ toneColumn t
   unfolding toneColumn keys word
   no-column =
       rw (not-one (word "1s") tt, not-one (word "2f") tt, not-one (word "3r") tt, not-one (word "4x") tt, not-one (word "5j") tt) refl

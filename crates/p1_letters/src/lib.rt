@@ -2,14 +2,14 @@
 // tests (port order 1). Every function takes every u32; what is no letter is left as it is.
 ghost use Prim.Native.Nat.{ℕ, _/_, _%_, _^_, _≤_, _<_};
 ghost use mathlib.Core.Path.{_≡_};
-ghost use mathlib.Core.List.{[], _∷_};
 ghost use lib.Dec.{eqb};
 ghost use Rattle.p0_choice.specs.Choice.{among};
 ghost use Rattle.p1_letters.specs.Mirror.{firstForeign};
 ghost use Rattle.p1_letters.specs.Alphabet.{smallBy32, smallBy1, smallNext, isCapital, inAlphabet, allLetters, isWhiteSpace};
 ghost use Rattle.p1_letters.specs.Alphabet.{isSeparator, asciiLower, asciiUpper, lower as lowerOf, upper as upperOf};
-ghost use Rattle.p1_letters.specs.Tones.{toneFrom, toneOn, toneOff};
+ghost use Rattle.p1_letters.specs.Tones.{toneColumn, toneOn, toneOff};
 ghost use Rattle.p1_letters.specs.Vowels.{vowels, isVowel, isSpellingVowel};
+use p1_tone_block as tones;
 
 // Code points in blocks of 32, each block a number whose lowest bit stands for the block's first code point.
 fn bit(block: u32, x: u32) -> bool
@@ -209,66 +209,56 @@ pub fn upper(x: u32) -> u32
     x
 }
 
-// The one of a vowel's five toned letters that a key asks for, or the letter as it is.
-fn tone_from(ch: u32, tone: u32, sac: u32, huyen: u32, hoi: u32, nga: u32, nang: u32) -> u32
-    ensures { λ r. ⌜ r ≡ toneFrom ch tone (0 ∷ sac ∷ huyen ∷ hoi ∷ nga ∷ nang ∷ []) ⌝ }
+// The columns of the letters from f to x, three bits each: f 2, j 5, r 3, s 1, x 4, and 0 for the others.
+const KEYS: u64 = 0x10000b000005002;
+
+// The column that a tone key asks for, 0 for what is no tone key.
+fn column_of(tone: u32) -> u8
+    ensures { λ r. ⌜ r ≡ toneColumn tone ⌝ }
 {
-    match tone {
-        49 | 115 => sac,
-        50 | 102 => huyen,
-        51 | 114 => hoi,
-        52 | 120 => nga,
-        53 | 106 => nang,
-        _ => ch,
+    if tone < 49 {
+        return 0;
     }
+    if tone <= 53 {
+        return (tone - 48) as u8;
+    }
+    if tone < 102 {
+        return 0;
+    }
+    if 120 < tone {
+        return 0;
+    }
+    ((KEYS >> (3 * (tone - 102))) % 8) as u8
 }
 
-// Tone on, as the Rust: a capital vowel gives the small toned letter.
+// Tone on, as the Rust: a capital vowel gives the small toned letter, which stands in the vowel's row and the tone's column.
 pub fn apply_tone_to_char(ch: u32, tone: u32) -> u32
     ensures { λ r. ⌜ r ≡ toneOn ch tone ⌝ }
 {
     let l = ascii_lower(ch);
-    match l {
-        0x61 => tone_from(ch, tone, 0xe1, 0xe0, 0x1ea3, 0xe3, 0x1ea1),
-        0x103 => tone_from(ch, tone, 0x1eaf, 0x1eb1, 0x1eb3, 0x1eb5, 0x1eb7),
-        0xe2 => tone_from(ch, tone, 0x1ea5, 0x1ea7, 0x1ea9, 0x1eab, 0x1ead),
-        0x65 => tone_from(ch, tone, 0xe9, 0xe8, 0x1ebb, 0x1ebd, 0x1eb9),
-        0xea => tone_from(ch, tone, 0x1ebf, 0x1ec1, 0x1ec3, 0x1ec5, 0x1ec7),
-        0x69 => tone_from(ch, tone, 0xed, 0xec, 0x1ec9, 0x129, 0x1ecb),
-        0x6f => tone_from(ch, tone, 0xf3, 0xf2, 0x1ecf, 0xf5, 0x1ecd),
-        0xf4 => tone_from(ch, tone, 0x1ed1, 0x1ed3, 0x1ed5, 0x1ed7, 0x1ed9),
-        0x1a1 => tone_from(ch, tone, 0x1edb, 0x1edd, 0x1edf, 0x1ee1, 0x1ee3),
-        0x75 => tone_from(ch, tone, 0xfa, 0xf9, 0x1ee7, 0x169, 0x1ee5),
-        0x1b0 => tone_from(ch, tone, 0x1ee9, 0x1eeb, 0x1eed, 0x1eef, 0x1ef1),
-        0x79 => tone_from(ch, tone, 0xfd, 0x1ef3, 0x1ef7, 0x1ef9, 0x1ef5),
-        _ => ch,
+    if !is_small_vowel(l) {
+        return ch;
     }
+    let column = column_of(tone);
+    if column == 0 {
+        return ch;
+    }
+    tones::letter_at(tones::letter_place(l) + column) as u32
 }
 
-// Tone off. Where a toned letter of a vowel stands beside another (à á, è é, ..), it has an arm of its own.
+// Tone off: the vowel at the head of the row. Most letters stand below à, where none has a tone, and are not looked up.
 pub fn strip_tone(c: u32) -> u32
     ensures { λ r. ⌜ r ≡ toneOff c ⌝ }
 {
-    match c {
-        0xe0 | 0xe3 | 0x1ea1 | 0x1ea3 => 0x61,
-        0xe1 => 0x61,
-        0x1eaf | 0x1eb1 | 0x1eb3 | 0x1eb5 | 0x1eb7 => 0x103,
-        0x1ea5 | 0x1ea7 | 0x1ea9 | 0x1eab | 0x1ead => 0xe2,
-        0xe8 | 0x1eb9 | 0x1ebb | 0x1ebd => 0x65,
-        0xe9 => 0x65,
-        0x1ebf | 0x1ec1 | 0x1ec3 | 0x1ec5 | 0x1ec7 => 0xea,
-        0xec | 0x129 | 0x1ec9 | 0x1ecb => 0x69,
-        0xed => 0x69,
-        0xf2 | 0xf5 | 0x1ecd | 0x1ecf => 0x6f,
-        0xf3 => 0x6f,
-        0x1ed1 | 0x1ed3 | 0x1ed5 | 0x1ed7 | 0x1ed9 => 0xf4,
-        0x1edb | 0x1edd | 0x1edf | 0x1ee1 | 0x1ee3 => 0x1a1,
-        0xf9 | 0x169 | 0x1ee5 | 0x1ee7 => 0x75,
-        0xfa => 0x75,
-        0x1ee9 | 0x1eeb | 0x1eed | 0x1eef | 0x1ef1 => 0x1b0,
-        0xfd | 0x1ef3 | 0x1ef5 | 0x1ef7 | 0x1ef9 => 0x79,
-        _ => c,
+    if c < 0xe0 {
+        return c;
     }
+    let place = tones::letter_place(c);
+    let found = tones::letter_at(place) as u32;
+    if found == c {
+        return tones::letter_at(place / tones::WIDTH * tones::WIDTH) as u32;
+    }
+    c
 }
 
 // One of the twelve small vowels.

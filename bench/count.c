@@ -1,0 +1,181 @@
+/* One figure of bench/run over the note, once or twice: bench/count counts the instructions of both, and the difference is
+ * that of one time.
+ *
+ *   count NOTE FIGURE TIMES      prints how many keys or words one time has */
+#include "pasdrongel.h"
+
+#include <stdio.h>
+#include <stdlib.h>
+#include <string.h>
+
+#define MOST_KEYS 8192
+#define MOST_WORDS 1024
+/* Both reset a habit's composition at this key (bench/note.rs). */
+#define RESET 0x0a
+#define TELEX 0
+
+/* The loops by value, of p7_bench and p7_bench_inner. */
+size_t pasdrongel_bench_keys(const uint32_t *keys, size_t length, uint32_t *text, size_t room);
+size_t pasdrongel_bench_sound_keys(const uint32_t *keys, size_t length, uint32_t *text, size_t room);
+
+struct word {
+    uint32_t letters[PASDRONGEL_CELLS];
+    size_t length;
+};
+
+/* The note's keys, and those of the figure's habit: with a RESET wherever its host starts afresh. */
+static uint32_t note[MOST_KEYS], keys[MOST_KEYS];
+static size_t note_length, key_count;
+static struct word words[MOST_WORDS];
+static size_t word_count;
+
+static uint8_t state[PASDRONGEL_COMPOSITION_BYTES];
+static uint32_t text[PASDRONGEL_CELLS];
+static size_t text_length;
+
+static void fail(const char *why)
+{
+    fprintf(stderr, "count: %s\n", why);
+    exit(2);
+}
+
+static void begin(int capitals)
+{
+    pasdrongel_new(state, sizeof state, TELEX);
+    if (capitals)
+        pasdrongel_set_capitals(state, sizeof state, 1);
+}
+
+static uint32_t press(uint32_t key)
+{
+    return pasdrongel_key(state, sizeof state, key, text, PASDRONGEL_CELLS, &text_length);
+}
+
+static void type(const uint32_t *typed, size_t length, int capitals)
+{
+    begin(capitals);
+    for (size_t at = 0; at < length; at++) {
+        if (typed[at] == RESET)
+            pasdrongel_reset(state, sizeof state);
+        else
+            press(typed[at]);
+    }
+}
+
+/* What the keys of a word make, without digits and points: as bench/note.rs parts it. */
+static void add_words(const uint32_t *typed, size_t length)
+{
+    type(typed, length, 0);
+    size_t letters = 0;
+    for (size_t at = 0; at <= text_length; at++) {
+        uint32_t letter = at < text_length ? text[at] : 0, small = letter | 0x20;
+        if ((small >= 'a' && small <= 'z') || letter >= 0x80)
+            words[word_count].letters[letters++] = letter;
+        else if (letters > 0)
+            words[word_count++].length = letters, letters = 0;
+        if (word_count == MOST_WORDS)
+            fail("the note has too many words");
+    }
+}
+
+static void read_note(const char *path)
+{
+    FILE *file = fopen(path, "rb");
+    if (!file)
+        fail("the note cannot be read");
+    size_t from = 0;
+    for (int key; (key = getc(file)) != EOF; note[note_length++] = (uint32_t)key) {
+        if (note_length == MOST_KEYS)
+            fail("the note has too many keys");
+        if (key == ' ' || key == RESET) {
+            if (from < note_length)
+                add_words(note + from, note_length - from);
+            from = note_length + 1;
+        }
+    }
+    fclose(file);
+}
+
+static void add_key(uint32_t key)
+{
+    if (key_count == MOST_KEYS)
+        fail("the note has too many keys");
+    keys[key_count++] = key;
+}
+
+/* One line of all; a key that would need a 33rd cell starts afresh. */
+static void reset_when_full(void)
+{
+    begin(0);
+    for (size_t at = 0; at < note_length; at++) {
+        uint32_t key = note[at] == RESET ? ' ' : note[at];
+        if (at + 1 == note_length && key == ' ')
+            return;
+        if (press(key) != 0) {
+            add_key(RESET);
+            begin(0);
+            press(key);
+        }
+        add_key(key);
+    }
+}
+
+static void take_habit(const char *figure)
+{
+    int line = strstr(figure, "line") != NULL, caps_lock = !strcmp(figure, "key-capitals");
+    if (strstr(figure, "one")) {
+        reset_when_full();
+        return;
+    }
+    for (size_t at = 0; at < note_length; at++) {
+        uint32_t key = note[at];
+        if (caps_lock && key >= 'a' && key <= 'z')
+            key -= 'a' - 'A';
+        add_key(key == ' ' && !line ? RESET : key);
+    }
+}
+
+/* The keys that are typed, or the words. */
+static size_t units(const char *figure)
+{
+    size_t typed = 0;
+    for (size_t at = 0; at < key_count; at++)
+        typed += keys[at] != RESET;
+    return !strcmp(figure, "verdict") || !strcmp(figure, "cut") ? word_count : typed;
+}
+
+/* The figure once over the note. */
+static void run(const char *figure)
+{
+    size_t onset, vowels;
+    uint32_t yes;
+    if (!strncmp(figure, "key-inner", strlen("key-inner"))) {
+        pasdrongel_bench_sound_keys(keys, key_count, text, PASDRONGEL_CELLS);
+    } else if (strstr(figure, "capitals")) {
+        type(keys, key_count, 1);
+    } else if (!strncmp(figure, "key", strlen("key"))) {
+        pasdrongel_bench_keys(keys, key_count, text, PASDRONGEL_CELLS);
+    } else if (!strncmp(figure, "call", strlen("call"))) {
+        type(keys, key_count, 0);
+    } else if (!strcmp(figure, "verdict")) {
+        for (size_t at = 0; at < word_count; at++)
+            pasdrongel_verdict(words[at].letters, words[at].length, &yes);
+    } else if (!strcmp(figure, "cut")) {
+        for (size_t at = 0; at < word_count; at++)
+            pasdrongel_cut(words[at].letters, words[at].length, &onset, &vowels);
+    } else {
+        fail("no such figure");
+    }
+}
+
+int main(int argc, char **argv)
+{
+    if (argc != 4)
+        fail("count NOTE FIGURE TIMES");
+    read_note(argv[1]);
+    take_habit(argv[2]);
+    for (int time = atoi(argv[3]); time > 0; time--)
+        run(argv[2]);
+    printf("%zu\n", units(argv[2]));
+    return 0;
+}
