@@ -1,4 +1,4 @@
-// Prints every listed word, one to a line, in UTF-8 and in order.
+// Prints every listed word, one to a line, in UTF-8 and in order. Where one is not written, nothing more is, and that is told.
 use libc::STDOUT_FILENO;
 use p0_refusals::Answer;
 use p4_spelling::LONGEST;
@@ -23,19 +23,23 @@ fn print(word: &[u32]) -> bool {
     }
 }
 
-fn main() {
+// Writes the word of a number; false where it is not written.
+fn print_number(n: usize) -> bool {
     let mut letters = [0u32; LONGEST];
+    let given = p5_lister::word_number(n, &mut letters);
+    match given {
+        Answer::Refused(_) => false,
+        Answer::Done(len) => print(slices::first(&letters, len)),
+    }
+}
+
+fn main() {
     let mut n: usize = 0;
     while n < p5_lister::total() {
-        let given = p5_lister::word_number(n, &mut letters);
-        n += 1;
-        match given {
-            Answer::Refused(_) => return,
-            Answer::Done(len) => {
-                if !print(slices::first(&letters, len)) {
-                    return;
-                }
-            }
+        if !print_number(n) {
+            os::fail(b"wordlist: not all was written");
+            return;
         }
+        n += 1;
     }
 }
