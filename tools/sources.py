@@ -154,6 +154,8 @@ class Edit:
         self.functions = head[1].split(", ") if head else []
         self.says = head[2].strip().rstrip(".") if head else ""
         self.tried = gate or "# untried" not in lines
+        # Tried before records were kept, or so it is believed: nothing shows it.
+        self.unrecorded = not gate and self.tried and not any(line.startswith("# tried ") for line in lines)
         self.replaced = []
         where, file, old = crate, None, None
         for line in lines:
