@@ -16,6 +16,12 @@ mod host {
         pub fn pasdrongel_read_draft(draft: *const u8, length: usize, state: *mut u8, size: usize) -> u32;
         pub fn pasdrongel_cut(word: *const u32, length: usize, onset: *mut usize, vowels: *mut usize) -> u32;
         pub fn pasdrongel_verdict(word: *const u32, length: usize, yes: *mut u32) -> u32;
+        pub fn pasdrongel_line_check(
+            line: *const u32, length: usize, words: *mut usize, no: *mut usize, first: *mut usize) -> u32;
+        pub fn pasdrongel_line_begin(state: *mut u8, size: usize) -> u32;
+        pub fn pasdrongel_line_part(state: *mut u8, size: usize, letters: *const u32, length: usize) -> u32;
+        pub fn pasdrongel_line_answer(
+            state: *const u8, size: usize, words: *mut usize, no: *mut usize, first: *mut usize) -> u32;
         pub fn pasdrongel_word(number: usize, word: *mut u32, room: usize, count: *mut usize) -> u32;
         pub fn pasdrongel_next_word(
             after: *const u32, length: usize, word: *mut u32, room: usize, count: *mut usize) -> u32;
@@ -34,6 +40,9 @@ mod host {
 const STATE: usize = 264;
 const TELEX: u32 = 0;
 const CAPITALS_ON: u32 = 1;
+
+/// The bytes of a note line's state.
+const LINE_STATE: usize = 26;
 
 /// A composition as bytes.
 pub type State = [u8; STATE];
@@ -117,6 +126,28 @@ pub fn cut(word: &[u32]) -> (usize, usize) {
     let (mut onset, mut vowels) = (0, 0);
     assert_eq!(unsafe { host::pasdrongel_cut(word.as_ptr(), word.len(), &mut onset, &mut vowels) }, 0);
     (onset, vowels)
+}
+
+/// What is told of a note line: its words, those judged no, and the place of the first of these.
+pub type Told = (usize, usize, usize);
+
+/// `None` for a refusal.
+pub fn line_check(line: &[u32]) -> Option<Told> {
+    let (mut words, mut no, mut first) = (0, 0, 0);
+    let refusal = unsafe { host::pasdrongel_line_check(line.as_ptr(), line.len(), &mut words, &mut no, &mut first) };
+    (refusal == 0).then_some((words, no, first))
+}
+
+/// The same of the line in parts of so many letters.
+pub fn line_in_parts(line: &[u32], size: usize) -> Option<Told> {
+    let mut state = [0; LINE_STATE];
+    let (mut words, mut no, mut first) = (0, 0, 0);
+    let mut refusal = unsafe { host::pasdrongel_line_begin(state.as_mut_ptr(), LINE_STATE) };
+    for part in line.chunks(size) {
+        refusal |= unsafe { host::pasdrongel_line_part(state.as_mut_ptr(), LINE_STATE, part.as_ptr(), part.len()) };
+    }
+    refusal |= unsafe { host::pasdrongel_line_answer(state.as_ptr(), LINE_STATE, &mut words, &mut no, &mut first) };
+    (refusal == 0).then_some((words, no, first))
 }
 
 /// How many letters were written; `None` for a refusal.

@@ -1,7 +1,7 @@
 /* One figure of bench/run over the note, once or twice: bench/count counts the instructions of both, and the difference is
  * that of one time.
  *
- *   count NOTE FIGURE TIMES      prints how many keys or words one time has */
+ *   count NOTE FIGURE TIMES      prints how many keys, words or calls one time has */
 #include "pasdrongel.h"
 
 #include <stdio.h>
@@ -13,6 +13,11 @@
 /* Both reset a habit's composition at this key (bench/note.rs). */
 #define RESET 0x0a
 #define TELEX 0
+/* The letters of a part, as in bench/note.rs. */
+#define PART 16
+/* What the line has that parts are counted on: so many words, and this one open. */
+#define FULL_WORDS 2000
+static const uint32_t open_word[] = {'n', 'g', 'h', 'u', 'y', 0xea, 'c', 'h'};
 
 /* The loops by value, of p7_bench and p7_bench_inner. */
 size_t pasdrongel_bench_keys(const uint32_t *keys, size_t length, uint32_t *text, size_t room);
@@ -28,6 +33,10 @@ static uint32_t note[MOST_KEYS], keys[MOST_KEYS];
 static size_t note_length, key_count;
 static struct word words[MOST_WORDS];
 static size_t word_count;
+/* The note as one line, and the state on which a part of it is counted. */
+static uint32_t line[PASDRONGEL_LINE_LETTERS];
+static size_t line_length;
+static uint8_t line_state[PASDRONGEL_LINE_STATE_BYTES];
 
 static uint8_t state[PASDRONGEL_COMPOSITION_BYTES];
 static uint32_t text[PASDRONGEL_CELLS];
@@ -62,10 +71,19 @@ static void type(const uint32_t *typed, size_t length, int capitals)
     }
 }
 
-/* What the keys of a word make, without digits and points: as bench/note.rs parts it. */
+static void add_to_line(uint32_t letter)
+{
+    if (line_length == PASDRONGEL_LINE_LETTERS)
+        fail("the note is too long for a line");
+    line[line_length++] = letter;
+}
+
+/* What the keys of a word make: to the line as it is, and without digits and points, as bench/note.rs parts it. */
 static void add_words(const uint32_t *typed, size_t length)
 {
     type(typed, length, 0);
+    for (size_t at = 0; at < text_length; at++)
+        add_to_line(text[at]);
     size_t letters = 0;
     for (size_t at = 0; at <= text_length; at++) {
         uint32_t letter = at < text_length ? text[at] : 0, small = letter | 0x20;
@@ -91,9 +109,11 @@ static void read_note(const char *path)
             if (from < note_length)
                 add_words(note + from, note_length - from);
             from = note_length + 1;
+            add_to_line((uint32_t)key);
         }
     }
     fclose(file);
+    line_length--; /* the last line's end */
 }
 
 static void add_key(uint32_t key)
@@ -135,13 +155,53 @@ static void take_habit(const char *figure)
     }
 }
 
-/* The keys that are typed, or the words. */
+static int of_part(const char *figure)
+{
+    return !strncmp(figure, "part-", strlen("part-"));
+}
+
+/* The state on which a part is counted: of nothing, or of many words and one that stands open. */
+static void take_state(const char *figure)
+{
+    static const uint32_t one[] = {'a', ' '};
+    pasdrongel_line_begin(line_state, sizeof line_state);
+    if (!of_part(figure) || !strstr(figure, "full"))
+        return;
+    for (int times = 0; times < FULL_WORDS; times++)
+        pasdrongel_line_part(line_state, sizeof line_state, one, 2);
+    if (pasdrongel_line_part(line_state, sizeof line_state, open_word, sizeof open_word / sizeof *open_word) != 0)
+        fail("the line is refused");
+}
+
+/* How many words the line has. */
+static size_t line_words(void)
+{
+    size_t told, no, first;
+    if (pasdrongel_line_check(line, line_length, &told, &no, &first) != 0)
+        fail("the line is refused");
+    return told;
+}
+
+/* The keys that are typed, the words, or the one call. */
 static size_t units(const char *figure)
 {
     size_t typed = 0;
     for (size_t at = 0; at < key_count; at++)
         typed += keys[at] != RESET;
+    if (!strcmp(figure, "line") || !strcmp(figure, "line-part"))
+        return line_words();
+    if (of_part(figure))
+        return 1;
     return !strcmp(figure, "verdict") || !strcmp(figure, "cut") ? word_count : typed;
+}
+
+static void run_parts(void)
+{
+    size_t told, no, first;
+    pasdrongel_line_begin(line_state, sizeof line_state);
+    for (size_t at = 0; at < line_length; at += PART)
+        pasdrongel_line_part(line_state, sizeof line_state, line + at, line_length - at < PART ? line_length - at : PART);
+    pasdrongel_line_answer(line_state, sizeof line_state, &told, &no, &first);
 }
 
 /* The figure once over the note. */
@@ -149,6 +209,7 @@ static void run(const char *figure)
 {
     size_t onset, vowels;
     uint32_t yes;
+    uint8_t copy[sizeof line_state];
     if (!strncmp(figure, "key-inner", strlen("key-inner"))) {
         pasdrongel_bench_sound_keys(keys, key_count, text, PASDRONGEL_CELLS);
     } else if (strstr(figure, "capitals")) {
@@ -163,6 +224,14 @@ static void run(const char *figure)
     } else if (!strcmp(figure, "cut")) {
         for (size_t at = 0; at < word_count; at++)
             pasdrongel_cut(words[at].letters, words[at].length, &onset, &vowels);
+    } else if (!strcmp(figure, "line")) {
+        line_words();
+    } else if (!strcmp(figure, "line-part")) {
+        run_parts();
+    } else if (of_part(figure)) {
+        memcpy(copy, line_state, sizeof copy);
+        if (pasdrongel_line_part(copy, sizeof copy, line, strtoul(figure + strlen("part-"), NULL, 10)) != 0)
+            fail("the part is refused");
     } else {
         fail("no such figure");
     }
@@ -174,6 +243,7 @@ int main(int argc, char **argv)
         fail("count NOTE FIGURE TIMES");
     read_note(argv[1]);
     take_habit(argv[2]);
+    take_state(argv[2]);
     for (int time = atoi(argv[3]); time > 0; time--)
         run(argv[2]);
     printf("%zu\n", units(argv[2]));

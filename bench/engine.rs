@@ -1,6 +1,7 @@
 //! The Rust's sides. What it answers goes to `black_box`, so that all of it is made.
 
 use crate::bamboo::BambooEngine;
+use crate::calls::Told;
 use crate::input_method::InputMethod;
 use crate::note::{Habit, Note, RESET};
 use crate::spelling;
@@ -63,6 +64,28 @@ pub fn cut(note: &mut Note) -> usize {
         black_box(spelling::partition(&word.text));
     }
     note.words.len()
+}
+
+/// A line cut at the letters of gaps, and each word judged: how many words, how many judged no, and the place of the first of
+/// these.
+pub fn told(line: &str) -> Told {
+    let is_gap = |letter| matches!(letter, '\t'..='\r' | ' ' | '.' | ',' | '!' | '?' | ';' | ':');
+    let (mut words, mut no, mut first, mut place) = (0, 0, None, 0);
+    for word in line.split(is_gap) {
+        if !word.is_empty() {
+            words += 1;
+            if !spelling::is_valid_vietnamese_syllable(word) {
+                no += 1;
+                first.get_or_insert(place);
+            }
+        }
+        place += word.chars().count() + 1;
+    }
+    (words, no, first.unwrap_or(place - 1))
+}
+
+pub fn line(note: &mut Note) -> usize {
+    black_box(told(&note.whole.text)).0
 }
 
 /// The verdict, and where the onset and the vowels end, as ours answers them.

@@ -2,7 +2,7 @@
 //! did.
 
 use crate::calls::{self, State, Typist};
-use crate::note::{Habit, Note, DRAFTED, ROOM};
+use crate::note::{Habit, Note, DRAFTED, PART, ROOM};
 use std::hint::black_box;
 
 pub type Side = fn(&mut Note) -> usize;
@@ -66,6 +66,10 @@ pub const FIGURES: &[Figure] = &[
         ours: verdict, rust: engine!(verdict), floor: None },
     Figure { name: "cut", what: "cut", unit: "word",
         ours: cut, rust: engine!(cut), floor: None },
+    Figure { name: "line", what: "note line, whole", unit: "word",
+        ours: line, rust: engine!(line), floor: None },
+    Figure { name: "line-part", what: "note line in parts of 16 letters", unit: "word",
+        ours: line_part, rust: engine!(line), floor: None },
     Figure { name: "read-utf8", what: "UTF-8 read", unit: "letter",
         ours: read_utf8, rust: Some(from_utf8), floor: None },
     Figure { name: "write-utf8", what: "UTF-8 write", unit: "letter",
@@ -183,6 +187,15 @@ fn cut(note: &mut Note) -> usize {
         black_box(calls::cut(&word.letters));
     }
     note.words.len()
+}
+
+/// The whole note as one line.
+fn line(note: &mut Note) -> usize {
+    black_box(calls::line_check(&note.whole.letters)).map_or(0, |(words, ..)| words)
+}
+
+fn line_part(note: &mut Note) -> usize {
+    black_box(calls::line_in_parts(&note.whole.letters, PART)).map_or(0, |(words, ..)| words)
 }
 
 fn word_by_number(note: &mut Note) -> usize {

@@ -12,6 +12,9 @@ pub const ROOM: usize = 64;
 pub const DRAFTED: usize = 10;
 const DRAFT: usize = 15 + 7 * DRAFTED;
 
+/// The letters of a part in which a note line is handed over.
+pub const PART: usize = 16;
+
 /// The keys, with a RESET wherever a host of this habit starts a fresh composition.
 pub struct Habit {
     pub keys: Vec<u32>,
@@ -65,6 +68,8 @@ pub struct Note {
     pub words: Vec<Text>,
     /// The lines that the keys make, each word composed by itself.
     pub lines: Vec<Text>,
+    /// All of them as one note line: a line's end is a gap like any other.
+    pub whole: Text,
     pub letters: [u32; 256],
     pub bytes: [u8; 256],
     pub string: String,
@@ -78,6 +83,7 @@ impl Note {
         let spaces_reset = |&key: &u32| if key == u32::from(' ') { RESET } else { key };
         let caps_lock = |key: u32| u32::from(letter(key).to_ascii_uppercase());
         let lines: Vec<Text> = text.lines().map(|line| Text::new(&composed(line))).collect();
+        let whole = Text::new(&lines.iter().map(|line| &line.text[..]).collect::<Vec<&str>>().join("\n"));
         let words = lines.iter().flat_map(|line| line.text.split(|letter: char| !letter.is_alphabetic()));
         let words = words.filter(|word| !word.is_empty()).map(Text::new).collect();
         Note {
@@ -89,6 +95,7 @@ impl Note {
             halves: text.lines().flat_map(halves).collect(),
             words,
             lines,
+            whole,
             letters: [0; 256],
             bytes: [0; 256],
             string: String::with_capacity(256),
@@ -99,7 +106,8 @@ impl Note {
 
     /// The sides do the same: after every key of every habit they have the same text, and no key is refused; and they
     /// judge and cut every word alike. With capitals on the text has the same letters but for their case, and where no
-    /// key is a small letter, the capital of each. What is read of a draft is the composition that it was written of.
+    /// key is a small letter, the capital of each. What is read of a draft is the composition that it was written of. The
+    /// note as one line is told alike, in parts too.
     pub fn check(&mut self) {
         for habit in [&self.space, &self.line, &self.one, &self.capitals] {
             for keys in habit.keys.split(|&key| key == RESET) {
@@ -122,6 +130,10 @@ impl Note {
             assert!(calls::read_draft(&draft_of(state), &mut read), "what was written is a draft");
             assert_eq!(read, *state);
         }
+        let told = calls::line_check(&self.whole.letters).expect("the note is a line");
+        assert_eq!(calls::line_in_parts(&self.whole.letters, PART), Some(told));
+        #[cfg(engine)]
+        assert_eq!(crate::engine::told(&self.whole.text), told);
         #[cfg(engine)]
         for Text { letters, text } in &self.words {
             assert_eq!((calls::verdict(letters), calls::cut(letters)), crate::engine::verdict_and_cut(text), "{text}");

@@ -21,7 +21,7 @@ const char *pasdrongel_refusal_text(uint32_t answer)
         [PASDRONGEL_REFUSED_NO_WORD] = "there is no such listed word",
         [PASDRONGEL_REFUSED_MALFORMED] = "the bytes are not UTF-8",
         [PASDRONGEL_REFUSED_NO_METHOD] = "the first line names no input method",
-        [PASDRONGEL_REFUSED_UNSOUND] = "the composition is not sound, or a number is no setting",
+        [PASDRONGEL_REFUSED_UNSOUND] = "a composition or line is not sound, or a number is no setting",
         [PASDRONGEL_REFUSED_NO_DRAFT] = "the bytes are not the draft of a sound composition",
     };
     uint32_t refusal = PASDRONGEL_REFUSAL(answer);

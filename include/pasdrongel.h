@@ -1,12 +1,13 @@
 /* pasdrongel.h: a Vietnamese input composer for a host in C: letters, input methods, compositions, drafts of them for
- * keeping, the speller, the list of all accepted syllables, and UTF-8.
+ * keeping, the speller, note lines, the list of all accepted syllables, and UTF-8.
  *
  * tools/install-host builds the library, to be linked statically or shared, with a file for pkg-config and with this header
  * as the page pasdrongel(3).
  *
  * Every call returns an answer: 0 when it is done, else the number of the refusal. It takes every value there is, always
- * ends, keeps nothing between calls and allocates nothing. After a refusal nothing is written. After success what it found
- * stands at the start of the lent output, and the rest of that output keeps its values.
+ * ends, keeps nothing between calls and allocates nothing. After a refusal nothing is written; the one exception is the state
+ * of a note line, which records a refused letter (pasdrongel_line_part). After success what it found stands at the start of the
+ * lent output, and the rest of that output keeps its values.
  *
  * A letter is a code point: U+0000 to U+007F, or one of the 134 Vietnamese letters outside ASCII. */
 
@@ -22,7 +23,7 @@ extern "C" {
 
 /* The version of this header, and its three parts in one number. */
 #define PASDRONGEL_VERSION_MAJOR 0
-#define PASDRONGEL_VERSION_MINOR 5
+#define PASDRONGEL_VERSION_MINOR 6
 #define PASDRONGEL_VERSION_PATCH 0
 #define PASDRONGEL_VERSION \
     (PASDRONGEL_VERSION_MAJOR * 1000000 + PASDRONGEL_VERSION_MINOR * 1000 + PASDRONGEL_VERSION_PATCH)
@@ -31,8 +32,12 @@ extern "C" {
  * C library it needs memcpy and memset, and nothing else. It has no data that is ever written: calls may run at the same
  * time, in threads or in a handler of signals, where what one of them writes is lent to no other. */
 
-/* No call takes more bytes of stack than this, counted from its return address on, memcpy and memset included. A loader that
- * binds these two at their first call takes its own then; a program that is linked with -z now has none. */
+/* No call but one takes more bytes of stack than this, counted from its return address on, memcpy and memset included. A loader
+ * that binds these two at their first call takes its own then; a program that is linked with -z now has none.
+ *
+ * The one is pasdrongel_line_check: it goes one call deeper for each word and the gap after it, and a line of 4,096 letters has
+ * at most 2,048 words. So pasdrongel_line_check takes at most 99,328 bytes of stack. A host with a small stack hands the
+ * line over in parts (pasdrongel_line_part), which need none of that. */
 #define PASDRONGEL_STACK_BYTES 640
 
 /* Memory. A call is lent buffers, each a pointer and a length, and places for one number, each a pointer. It reads and
@@ -51,7 +56,8 @@ extern "C" {
 /* The call is done. */
 #define PASDRONGEL_DONE 0
 
-/* Refusals. Where several hold, a call gives the first of 10, 11, 6, 8 or 1, then 2, 4, 5 or 7, last 3. */
+/* Refusals. Where several hold, a call gives the first of 10, 11, 6, 8 or 1, then 2, 4, 5 or 7, last 3. Of a note line 10 comes
+ * first too, and then the first letter that is refused decides. */
 
 /* A code point is no letter. */
 #define PASDRONGEL_REFUSED_FOREIGN 1
@@ -71,7 +77,7 @@ extern "C" {
 #define PASDRONGEL_REFUSED_MALFORMED 8
 /* The first line of the program names no method. */
 #define PASDRONGEL_REFUSED_NO_METHOD 9
-/* The composition is not sound. */
+/* The composition, or the state of a note line, is not sound. */
 #define PASDRONGEL_REFUSED_UNSOUND 10
 /* The bytes are not the draft of a sound composition. */
 #define PASDRONGEL_REFUSED_NO_DRAFT 11
@@ -82,6 +88,10 @@ extern "C" {
 #define PASDRONGEL_WORD_LETTERS 64
 /* The most bytes of a line, and of what is read as UTF-8. */
 #define PASDRONGEL_LINE_BYTES 256
+/* The most letters of a note line. */
+#define PASDRONGEL_LINE_LETTERS 4096
+/* The bytes of the state of a note line that is handed over in parts. */
+#define PASDRONGEL_LINE_STATE_BYTES 26
 /* The bytes of a composition, and the most cells that it uses. */
 #define PASDRONGEL_COMPOSITION_BYTES 264
 #define PASDRONGEL_CELLS 32
@@ -280,6 +290,44 @@ uint32_t pasdrongel_cut(const uint32_t *word, size_t length, size_t *onset, size
 /* `*yes` is 1 if the word is accepted as a Vietnamese syllable, else 0. Capitals and tones make no difference. `word` may be
  * NULL if `length` is 0, and is then no syllable. `word` and `yes` lie apart. */
 uint32_t pasdrongel_verdict(const uint32_t *word, size_t length, uint32_t *yes);
+
+/* Note lines. A note line is words and gaps by turns: a gap is made of separators (pasdrongel_is_separator), among which U+000A
+ * is one like any other, and a word is made of all letters between two gaps. Each word is judged as by pasdrongel_verdict.
+ *
+ * Told of a line are how many words it has, how many of them are judged no, and the place of the first letter of the first of
+ * these, in letters from 0; that is the line's length if none is judged no. The line "an za, qu" gives 3, 2 and 3, and the
+ * empty one 0, 0 and 0.
+ *
+ * A letter is refused by 1 if it is no letter; by 6 if it is the 4,097th of the line, whatever it is (PASDRONGEL_LINE_LETTERS),
+ * or the 65th of a word (PASDRONGEL_WORD_LETTERS), where a separator is none and ends the word. The first place at which a
+ * letter is refused decides, and where both hold of that letter, 1 does. */
+
+/* Checks a whole line of `length` letters: the number of its words to `*words`, that of the words judged no to `*no`, and the
+ * place to `*first`. Refuses by 1 or 6, by place as above. This is the call that takes more stack than others
+ * (PASDRONGEL_STACK_BYTES). `line` may be NULL if `length` is 0. `line`, `words`, `no` and `first` lie apart. */
+uint32_t pasdrongel_line_check(const uint32_t *line, size_t length, size_t *words, size_t *no, size_t *first);
+
+/* Note lines in parts. A line may be handed over as it comes in, cut anywhere, within a word too: what has come of it stands in
+ * `size` bytes of the host at `state`, PASDRONGEL_LINE_STATE_BYTES of them. What the bytes say is stated in docs/BYTES.md; like
+ * those of a composition they are not for keeping. A call that is given a state refuses by 10 where the bytes are not that many,
+ * or are not those of a sound state, and then changes nothing; `state` may be NULL if `size` is 0, and is then refused.
+ *
+ * However a line is cut, it is answered and refused as pasdrongel_line_check does the whole of it. A refused letter ends the
+ * line: the rest of its part is not read, and the state records the refusal. It is then the answer to each later part, an empty
+ * one too, and to pasdrongel_line_answer, until pasdrongel_line_begin. */
+
+/* Makes `state` a line of which nothing has come, whatever the bytes were. Refuses by 10 if `size` is another number. */
+uint32_t pasdrongel_line_begin(uint8_t *state, size_t size);
+
+/* Takes the next `length` letters of the line. Refuses by 10; then by the refusal that is recorded, or by 1 or 6, by place as
+ * above, which it records. What it takes of time goes by the letters of the part, and not by those before. `letters` may be NULL
+ * if `length` is 0. `state` and `letters` lie apart. */
+uint32_t pasdrongel_line_part(uint8_t *state, size_t size, const uint32_t *letters, size_t length);
+
+/* Tells of the letters that have come what pasdrongel_line_check tells of a line; a word that stands open is counted and judged
+ * as it stands. It may be asked at any time, and the line goes on as if it were not. Refuses by 10, then by the refusal that is
+ * recorded. `state`, `words`, `no` and `first` lie apart. */
+uint32_t pasdrongel_line_answer(const uint8_t *state, size_t size, size_t *words, size_t *no, size_t *first);
 
 /* The list. It has all accepted syllables, small and without tones, in dictionary order by code point. A word is written from
  * the start of `word`, which has room for `room` letters, and its length to `*count`. */

@@ -43,6 +43,12 @@ pub mod host {
         pub fn pasdrongel_read_draft(draft: *const u8, length: usize, state: *mut u8, size: usize) -> u32;
         pub fn pasdrongel_cut(word: *const u32, length: usize, onset: *mut usize, vowels: *mut usize) -> u32;
         pub fn pasdrongel_verdict(word: *const u32, length: usize, yes: *mut u32) -> u32;
+        pub fn pasdrongel_line_check(
+            line: *const u32, length: usize, words: *mut usize, no: *mut usize, first: *mut usize) -> u32;
+        pub fn pasdrongel_line_begin(state: *mut u8, size: usize) -> u32;
+        pub fn pasdrongel_line_part(state: *mut u8, size: usize, letters: *const u32, length: usize) -> u32;
+        pub fn pasdrongel_line_answer(
+            state: *const u8, size: usize, words: *mut usize, no: *mut usize, first: *mut usize) -> u32;
         pub fn pasdrongel_total(total: *mut usize) -> u32;
         pub fn pasdrongel_word(number: usize, word: *mut u32, room: usize, count: *mut usize) -> u32;
         pub fn pasdrongel_next_word(

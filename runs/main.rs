@@ -14,6 +14,8 @@ mod drafts;
 mod engine;
 mod fixed;
 mod letters;
+mod line;
+mod lines;
 mod lister;
 mod methods;
 mod oracle;
@@ -42,6 +44,7 @@ const SUBJECTS: &[Subject] = &[
     Subject { name: "lister", calls: lister::CALLS, compare: lister::compare, fixed: lister::fixed },
     Subject { name: "utf8", calls: utf8::CALLS, compare: utf8::compare, fixed: utf8::fixed },
     Subject { name: "drafts", calls: drafts::CALLS, compare: drafts::compare, fixed: drafts::fixed },
+    Subject { name: "lines", calls: lines::CALLS, compare: lines::compare, fixed: lines::fixed },
 ];
 
 fn main() -> ExitCode {

@@ -17,6 +17,7 @@ pub const NO_DRAFT: u32 = 11;
 
 pub const WORD_LETTERS: usize = 64;
 pub const LINE_BYTES: usize = 256;
+pub const LINE_LETTERS: usize = 4096;
 
 /// The ten tone keys.
 pub const TONE_KEYS: &str = "sfrxj12345";

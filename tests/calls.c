@@ -32,12 +32,14 @@ static void told(int holds, const char *fact, int line)
 static struct lent the_state, the_input, the_output, the_first, the_second;
 static struct lent *const everything[] = {&the_state, &the_input, &the_output, &the_first, &the_second};
 #define EVERYTHING (sizeof everything / sizeof *everything)
+/* What is lent of a note line beside, and held by who lends it: a third number, and letters that are more than a page. */
+static struct lent the_third, the_line;
 
-static uint8_t state[MOST];   /* the composition that the composition calls are given, and its size */
+static uint8_t state[MOST];   /* the composition, or the state of a note line, that a call is given, and its size */
 static size_t state_size;
-static uint32_t letters[MOST]; /* the answer of the last call that was done: letters or bytes, their count, a number */
+static uint32_t letters[MOST]; /* the answer of the last call that was done: letters or bytes, their count, numbers */
 static uint8_t bytes[MOST];
-static size_t count, place;
+static size_t count, place, third;
 static uint32_t number;
 
 static void *lent(struct lent *where, const void *content, size_t size)
@@ -53,7 +55,7 @@ static void begin(void)
     calls++;
 }
 
-/* Lends the composition, room for an answer, or a number. */
+/* Lends the state, room for an answer, or a number. */
 static uint8_t *given(void)
 {
     return lent(&the_state, state, state_size);
@@ -69,25 +71,43 @@ static size_t *counted(void)
     return lent(&the_first, NULL, sizeof(size_t));
 }
 
+static size_t *second_count(void)
+{
+    return lent(&the_second, NULL, sizeof(size_t));
+}
+
+static size_t *third_count(void)
+{
+    return lent(&the_third, NULL, sizeof(size_t));
+}
+
 static uint32_t *told_yes(void)
 {
     return lent(&the_first, NULL, sizeof(uint32_t));
 }
 
-/* What a call that is done may have written. */
-enum writes { NOTHING = 0, THE_STATE = 1, THE_LETTERS = 2, THE_BYTES = 4, THE_NUMBER = 8, A_COUNT = 16, TWO_PLACES = 32 };
+/* What a call that is done may have written; and RECORDS: by 1 and 6 the state may change too. */
+enum writes {
+    NOTHING = 0, THE_STATE = 1, THE_LETTERS = 2, THE_BYTES = 4, THE_NUMBER = 8, A_COUNT = 16, TWO_PLACES = 32, THREE_COUNTS = 64,
+    RECORDS = 128
+};
 
 static uint32_t end_of_call(uint32_t answer, int writes)
 {
     size_t i, unit = writes & THE_LETTERS ? sizeof *letters : writes & THE_BYTES ? sizeof *bytes : 0;
     uint32_t refusal = PASDRONGEL_REFUSAL(answer);
+    int recorded = writes & RECORDS && (refusal == PASDRONGEL_REFUSED_FOREIGN || refusal == PASDRONGEL_REFUSED_LONG);
     FACT(refusal == answer); /* nothing stands above the refusal in this version */
     if (refusal != PASDRONGEL_DONE) {
         for (i = 0; i < EVERYTHING; i++)
-            FACT(kept(everything[i], 0));
+            FACT(kept(everything[i], recorded && everything[i] == &the_state ? the_state.size : 0));
+        if (writes & THREE_COUNTS)
+            FACT(kept(&the_third, 0));
+        if (recorded)
+            memcpy(state, the_state.at, the_state.size);
         return refusal;
     }
-    if (unit != 0 || writes & (A_COUNT | TWO_PLACES))
+    if (unit != 0 || writes & (A_COUNT | TWO_PLACES | THREE_COUNTS))
         memcpy(&count, the_first.at, sizeof count);
     if (unit != 0) {
         FACT(count * unit <= the_output.size);
@@ -95,14 +115,18 @@ static uint32_t end_of_call(uint32_t answer, int writes)
     }
     if (writes & THE_NUMBER)
         memcpy(&number, the_first.at, sizeof number);
-    if (writes & TWO_PLACES)
+    if (writes & (TWO_PLACES | THREE_COUNTS))
         memcpy(&place, the_second.at, sizeof place);
+    if (writes & THREE_COUNTS)
+        memcpy(&third, the_third.at, sizeof third);
     memcpy(state, the_state.at, the_state.size);
     FACT(kept(&the_state, writes & THE_STATE ? the_state.size : 0));
     FACT(kept(&the_input, 0));
     FACT(kept(&the_output, unit * count));
-    FACT(kept(&the_first, writes & ~THE_STATE ? the_first.size : 0));
-    FACT(kept(&the_second, writes & TWO_PLACES ? the_second.size : 0));
+    FACT(kept(&the_first, writes & ~(THE_STATE | RECORDS) ? the_first.size : 0));
+    FACT(kept(&the_second, writes & (TWO_PLACES | THREE_COUNTS) ? the_second.size : 0));
+    if (writes & THREE_COUNTS)
+        FACT(kept(&the_third, the_third.size));
     return refusal;
 }
 
@@ -287,14 +311,51 @@ static uint32_t mark_for(uint32_t method, uint32_t base, uint32_t letter)
 static uint32_t cut_letters(const uint32_t *word, size_t length)
 {
     begin();
-    return end_of_call(pasdrongel_cut(lent(&the_input, word, length * sizeof *word), length, counted(),
-                                      lent(&the_second, NULL, sizeof(size_t))), TWO_PLACES);
+    return end_of_call(pasdrongel_cut(lent(&the_input, word, length * sizeof *word), length, counted(), second_count()), TWO_PLACES);
 }
 
 static uint32_t judge_letters(const uint32_t *word, size_t length)
 {
     begin();
     return end_of_call(pasdrongel_verdict(lent(&the_input, word, length * sizeof *word), length, told_yes()), THE_NUMBER);
+}
+
+/* Where so many letters of a line are lent: most are few, and need no more than other inputs. */
+static struct lent *line_space(size_t length)
+{
+    return length * sizeof(uint32_t) <= the_input.space_size ? &the_input : &the_line;
+}
+
+static uint32_t line_check(const uint32_t *line, size_t length)
+{
+    struct lent *space = line_space(length);
+    uint32_t answer;
+    begin();
+    answer = pasdrongel_line_check(lent(space, line, length * sizeof *line), length, counted(), second_count(), third_count());
+    FACT(kept(space, 0));
+    return end_of_call(answer, THREE_COUNTS);
+}
+
+static uint32_t line_begin(void)
+{
+    begin();
+    return end_of_call(pasdrongel_line_begin(given(), state_size), THE_STATE);
+}
+
+static uint32_t line_part(const uint32_t *part, size_t length)
+{
+    struct lent *space = line_space(length);
+    uint32_t answer;
+    begin();
+    answer = pasdrongel_line_part(given(), state_size, lent(space, part, length * sizeof *part), length);
+    FACT(kept(space, 0));
+    return end_of_call(answer, THE_STATE | RECORDS);
+}
+
+static uint32_t line_answer(void)
+{
+    begin();
+    return end_of_call(pasdrongel_line_answer(given(), state_size, counted(), second_count(), third_count()), THREE_COUNTS);
 }
 
 static uint32_t total(void)
@@ -1314,6 +1375,389 @@ static void speller_facts(void)
     FACT(judge_letters(word, PASDRONGEL_WORD_LETTERS) == PASDRONGEL_DONE && number == 0);
 }
 
+/* ---- note lines, by what request 2026-04 says of them */
+
+#define LINE PASDRONGEL_LINE_LETTERS
+#define WORD PASDRONGEL_WORD_LETTERS
+#define LINE_STATE PASDRONGEL_LINE_STATE_BYTES
+
+static uint32_t note[LINE + 2]; /* a line that is built up here */
+static size_t note_length;
+
+/* Adds so many times the letters of a text. */
+static void add(const char *text, size_t times)
+{
+    uint32_t code_points[MOST];
+    size_t n = spelt(text, code_points);
+    for (; times > 0; times--) {
+        memcpy(note + note_length, code_points, n * sizeof *note);
+        note_length += n;
+    }
+}
+
+static void add_letter(uint32_t letter)
+{
+    note[note_length++] = letter;
+}
+
+static void write_note(const char *text)
+{
+    note_length = 0;
+    add(text, 1);
+}
+
+/* Are these the numbers that were told of the line? */
+static int tells(size_t words, size_t no, size_t first)
+{
+    return count == words && place == no && third == first;
+}
+
+static size_t two(const uint8_t *at)
+{
+    return at[0] + 256u * at[1];
+}
+
+static int is_gap(uint32_t letter)
+{
+    return letter != 0 && letter < 0x80 && strchr("\t\n\v\f\r .,!?;:", (int)letter) != NULL;
+}
+
+/* Is this the state of a line, by the sentences of docs/BYTES.md? */
+static int is_line(const uint8_t *line)
+{
+    size_t run = line[1], length = two(line + 2), words = two(line + 4), noes = two(line + 6), first = two(line + 8), i;
+    if (line[0] != 0 && line[0] != PASDRONGEL_REFUSED_FOREIGN && line[0] != PASDRONGEL_REFUSED_LONG)
+        return 0;
+    if (length > LINE || run > WORD || (line[0] == PASDRONGEL_REFUSED_LONG && run < WORD && length < LINE))
+        return 0;
+    if (noes == 0 ? first != 0 || 2 * words + run > length
+                  : noes > words || first + 2 * noes + run > length || 2 * words + run + first % 2 > length)
+        return 0;
+    for (i = 0; i < 8; i++) {
+        uint32_t letter = (uint32_t)two(line + 10 + 2 * i);
+        if (i < run ? PASDRONGEL_REFUSAL(pasdrongel_check_letter(letter)) != PASDRONGEL_DONE || is_gap(letter) : letter != 0)
+            return 0;
+    }
+    return 1;
+}
+
+/* A line of which nothing has come, over bytes of no meaning: every byte is 0. */
+static void begun(void)
+{
+    static const uint8_t zeros[LINE_STATE];
+    memset(state, GUARD, sizeof state);
+    state_size = LINE_STATE;
+    FACT(line_begin() == PASDRONGEL_DONE && memcmp(state, zeros, LINE_STATE) == 0);
+}
+
+/* After a letter that is refused: the state says so, and repeats it, whatever comes. */
+static void repeats(uint32_t refusal)
+{
+    static const uint32_t more[] = {'a', ' ', FOREIGN};
+    uint8_t recorded[LINE_STATE];
+    size_t i;
+    memcpy(recorded, state, LINE_STATE);
+    FACT(recorded[0] == refusal && is_line(recorded));
+    for (i = 0; i <= sizeof more / sizeof *more; i++)
+        FACT(line_part(more, i) == refusal && line_answer() == refusal && memcmp(state, recorded, LINE_STATE) == 0);
+    FACT(line_part(more + 2, 1) == refusal && memcmp(state, recorded, LINE_STATE) == 0);
+}
+
+/* Cut before the place `cut`, the note is answered and refused as it is whole. What is told between the parts is told of the first
+ * alone. */
+static void cut_before(size_t cut)
+{
+    uint32_t start = line_check(note, cut), whole;
+    size_t words = count, no = place, first = third;
+    begun();
+    FACT(line_part(note, cut) == start && is_line(state));
+    FACT(line_answer() == start && (start != PASDRONGEL_DONE || tells(words, no, first)));
+    whole = line_check(note, note_length);
+    words = count, no = place, first = third;
+    FACT(line_part(note + cut, note_length - cut) == whole && is_line(state));
+    FACT(line_answer() == whole && (whole != PASDRONGEL_DONE || tells(words, no, first)));
+    if (whole != PASDRONGEL_DONE)
+        repeats(whole);
+}
+
+/* In parts of so many letters, with an empty part and an answer after each: the state is that of the note in one part. */
+static void in_parts(size_t size)
+{
+    uint8_t whole[LINE_STATE];
+    size_t at, left;
+    begun();
+    line_part(note, note_length);
+    memcpy(whole, state, LINE_STATE);
+    begun();
+    for (at = 0; at < note_length; at += size) {
+        uint32_t refusal = line_part(note + at, (left = note_length - at) < size ? left : size);
+        FACT(line_answer() == refusal && line_part(note, 0) == refusal && is_line(state));
+    }
+    FACT(memcmp(state, whole, LINE_STATE) == 0);
+}
+
+/* The note in every cutting into two parts, and letter by letter; a long one in some cuttings. */
+static void every_cut(void)
+{
+    int is_long = note_length > 3 * WORD;
+    size_t cut;
+    for (cut = 0; cut <= note_length; cut++)
+        if (!is_long || cut % 512 == 0 || cut + 2 >= note_length)
+            cut_before(cut);
+    in_parts(is_long ? 31 : 1);
+}
+
+static int told_of(const char *text, size_t words, size_t no, size_t first)
+{
+    write_note(text);
+    every_cut();
+    return line_check(note, note_length) == PASDRONGEL_DONE && tells(words, no, first);
+}
+
+/* Is the note done, and told so; or refused? */
+static int note_told(size_t words, size_t no, size_t first)
+{
+    every_cut();
+    return line_check(note, note_length) == PASDRONGEL_DONE && tells(words, no, first);
+}
+
+static int note_refused(uint32_t refusal)
+{
+    every_cut();
+    return line_check(note, note_length) == refusal;
+}
+
+static void line_facts(void)
+{
+    uint32_t letter;
+    size_t i;
+    FACT(LINE == 4096 && WORD == 64 && LINE_STATE == 26);
+    /* the request's and others */
+    FACT(told_of("", 0, 0, 0) && told_of("an za. qu", 3, 2, 3) && told_of("an", 1, 0, 2) && told_of("za", 1, 1, 0));
+    FACT(told_of(" ", 0, 0, 1) && told_of(" .,!?;:\t\n\v\f\r", 0, 0, 12) && told_of("an\nza", 2, 1, 3) && told_of("\nan", 1, 0, 3));
+    FACT(told_of(" za ", 1, 1, 1) && told_of("an  an", 2, 0, 6) && told_of("za za za", 3, 3, 0) && told_of("an,an;za", 3, 1, 6));
+    FACT(told_of("phân 2", 2, 1, 5) && told_of("PHÂN Phần phần", 3, 0, 14) && told_of("giếng nghiêng", 2, 1, 0));
+    FACT(told_of("nghuyêch nghuyêchh", 2, 1, 9) && told_of("a-b", 1, 1, 0) && told_of("a'a", 1, 1, 0) && told_of("b q", 2, 1, 2));
+    /* every ASCII letter between two words is a gap, or makes one word of the three */
+    for (letter = 0; letter < 0x80; letter++) {
+        write_note("an");
+        add_letter(letter);
+        add("an", 1);
+        FACT(is_gap(letter) ? note_told(2, 0, 5) : note_told(1, 1, 0));
+    }
+    /* a word of 64 letters; a 65th, which is refused; a separator there, which is none */
+    note_length = 0, add("a", WORD);
+    FACT(note_told(1, 1, 0));
+    add("a", 1);
+    FACT(note_refused(PASDRONGEL_REFUSED_LONG));
+    note_length = WORD, add(" ", 1);
+    FACT(note_told(1, 1, 0));
+    add("a", WORD);
+    FACT(note_told(2, 2, 0));
+    add(".an", 1);
+    FACT(note_told(3, 2, 0));
+    add(" ", 1), add("b", WORD + 1);
+    FACT(note_refused(PASDRONGEL_REFUSED_LONG));
+    /* 1 and 6 by place: at one place it is 1, a place later 6 has decided, and before it 1 has */
+    for (i = WORD - 2; i <= WORD + 2; i++) {
+        note_length = 0, add("a", i), add_letter(FOREIGN), add("a", WORD);
+        FACT(note_refused(i <= WORD ? PASDRONGEL_REFUSED_FOREIGN : PASDRONGEL_REFUSED_LONG));
+    }
+    note_length = 0, add("a", WORD), add(" ", 1), add_letter(FOREIGN);
+    FACT(note_refused(PASDRONGEL_REFUSED_FOREIGN));
+    write_note("za "), add_letter(0x110000), add("an", 1);
+    FACT(note_refused(PASDRONGEL_REFUSED_FOREIGN));
+    /* 4,096 letters: of gaps, of words; the 4,097th is refused whatever it is, and by 1 where it is foreign */
+    note_length = 0, add(" ", LINE);
+    FACT(note_told(0, 0, LINE));
+    add(" ", 1);
+    FACT(note_refused(PASDRONGEL_REFUSED_LONG));
+    note[LINE] = 'a';
+    FACT(note_refused(PASDRONGEL_REFUSED_LONG));
+    note[LINE] = FOREIGN;
+    FACT(note_refused(PASDRONGEL_REFUSED_FOREIGN));
+    note[LINE] = ' ', add_letter(FOREIGN);
+    FACT(note_refused(PASDRONGEL_REFUSED_LONG));
+    note[LINE - 1] = FOREIGN;
+    FACT(note_refused(PASDRONGEL_REFUSED_FOREIGN));
+    note_length = 0, add("a ", LINE / 2);
+    FACT(note_told(LINE / 2, 0, LINE));
+    note_length = 0, add("z ", LINE / 2);
+    FACT(note_told(LINE / 2, LINE / 2, 0));
+    note_length = 0, add(" a", LINE / 2 - 1), add(" z", 1);
+    FACT(note_told(LINE / 2, 1, LINE - 1));
+    /* both limits at one place, and a word that is cut off by the line's */
+    note_length = 0, add(" ", LINE - WORD), add("a", WORD + 1);
+    FACT(note_refused(PASDRONGEL_REFUSED_LONG));
+    note[LINE] = FOREIGN;
+    FACT(note_refused(PASDRONGEL_REFUSED_FOREIGN));
+    note_length = LINE;
+    FACT(note_told(1, 1, LINE - WORD));
+}
+
+/* A refused letter leaves what came before it, and the rest of its part is not read. */
+static void ended_by(uint32_t letter, uint32_t refusal)
+{
+    uint8_t before[LINE_STATE];
+    begun();
+    write_note("an za. "), add("q", WORD);
+    FACT(line_part(note, note_length) == PASDRONGEL_DONE);
+    memcpy(before, state, LINE_STATE);
+    note_length = 0, add_letter(letter), add(" an an", 1);
+    FACT(line_part(note, note_length) == refusal && state[0] == refusal && before[0] == 0);
+    FACT(memcmp(state + 1, before + 1, LINE_STATE - 1) == 0);
+    repeats(refusal);
+    FACT(line_begin() == PASDRONGEL_DONE && line_part(note, 0) == PASDRONGEL_DONE);
+    FACT(line_answer() == PASDRONGEL_DONE && tells(0, 0, 0));
+}
+
+/* The line in parts: what the cuttings above do not ask. */
+static void line_part_facts(void)
+{
+    /* the open word is counted as it stands, and goes on; nothing that is asked changes what follows */
+    begun();
+    FACT(line_answer() == PASDRONGEL_DONE && tells(0, 0, 0));
+    write_note("an z");
+    FACT(line_part(note, 1) == PASDRONGEL_DONE && line_answer() == PASDRONGEL_DONE && tells(1, 0, 1));
+    FACT(line_part(note + 1, 3) == PASDRONGEL_DONE && line_answer() == PASDRONGEL_DONE && tells(2, 1, 3));
+    FACT(line_answer() == PASDRONGEL_DONE && tells(2, 1, 3) && line_part(note, 0) == PASDRONGEL_DONE);
+    write_note("a. qu");
+    FACT(line_part(note, note_length) == PASDRONGEL_DONE && line_answer() == PASDRONGEL_DONE && tells(3, 2, 3));
+    /* what is judged no as it stands may be judged yes when it has grown */
+    begun();
+    write_note("qua");
+    FACT(line_part(note, 1) == PASDRONGEL_DONE && line_answer() == PASDRONGEL_DONE && tells(1, 1, 0));
+    FACT(line_part(note + 1, 1) == PASDRONGEL_DONE && line_answer() == PASDRONGEL_DONE && tells(1, 1, 0));
+    FACT(line_part(note + 2, 1) == PASDRONGEL_DONE && line_answer() == PASDRONGEL_DONE && tells(1, 0, 3));
+    ended_by(FOREIGN, PASDRONGEL_REFUSED_FOREIGN);
+    ended_by('q', PASDRONGEL_REFUSED_LONG);
+}
+
+/* The state is refused by 10, whatever the part, and left. */
+static void no_line(void)
+{
+    static const uint32_t part[] = {'a', FOREIGN};
+    FACT(line_part(part, 0) == PASDRONGEL_REFUSED_UNSOUND && line_part(part, 1) == PASDRONGEL_REFUSED_UNSOUND);
+    FACT(line_part(part, 2) == PASDRONGEL_REFUSED_UNSOUND && line_answer() == PASDRONGEL_REFUSED_UNSOUND);
+}
+
+/* Puts one byte to a value that makes the state unsound, and back. */
+static void no_line_at(size_t at, uint8_t value)
+{
+    uint8_t old = state[at];
+    FACT(is_line(state) && (line_answer() == PASDRONGEL_DONE || line_answer() == state[0]));
+    state[at] = value;
+    FACT(!is_line(state));
+    no_line();
+    state[at] = old;
+}
+
+/* Each byte put to every value, and asked by turns for an answer and a part: refused by 10 where the state is none, else as it
+ * stands. */
+static void every_byte(void)
+{
+    uint8_t whole[LINE_STATE];
+    uint32_t standing;
+    size_t at, value;
+    memcpy(whole, state, LINE_STATE);
+    for (at = 0; at < LINE_STATE; at++)
+        for (value = 0; value < 256; value++) {
+            memcpy(state, whole, LINE_STATE);
+            state[at] = (uint8_t)value;
+            standing = is_line(state) ? state[0] : PASDRONGEL_REFUSED_UNSOUND;
+            FACT((value % 2 == 0 ? line_answer() : line_part(note, 0)) == standing);
+        }
+    memcpy(state, whole, LINE_STATE);
+}
+
+/* A state by its numbers, with no word open. */
+static int counts_are_sound(size_t length, size_t words, size_t noes, size_t first)
+{
+    size_t numbers[4], i;
+    numbers[0] = length, numbers[1] = words, numbers[2] = noes, numbers[3] = first;
+    memset(state, 0, sizeof state);
+    for (i = 0; i < 4; i++)
+        state[2 + 2 * i] = (uint8_t)numbers[i], state[3 + 2 * i] = (uint8_t)(numbers[i] / 256);
+    FACT(is_line(state) == (line_answer() == PASDRONGEL_DONE));
+    return line_answer() == PASDRONGEL_DONE;
+}
+
+static void line_state_facts(void)
+{
+    size_t i;
+    /* another size, with bytes that would do; only that is asked where a line is begun */
+    begun();
+    memset(state, 0, sizeof state);
+    for (state_size = 0; state_size <= 2 * LINE_STATE; state_size++)
+        if (state_size != LINE_STATE) {
+            FACT(line_begin() == PASDRONGEL_REFUSED_UNSOUND);
+            no_line();
+        }
+    state_size = STATE;
+    no_line();
+    for (i = 0; i < 256; i++) {
+        memset(state, (int)i, sizeof state);
+        state_size = LINE_STATE - 1;
+        FACT(line_begin() == PASDRONGEL_REFUSED_UNSOUND);
+        state_size = LINE_STATE + 1;
+        FACT(line_begin() == PASDRONGEL_REFUSED_UNSOUND);
+        state_size = LINE_STATE;
+        FACT(line_begin() == PASDRONGEL_DONE && line_answer() == PASDRONGEL_DONE && tells(0, 0, 0));
+    }
+    /* the bytes, as docs/BYTES.md has them: an, za at 3, and of the open word qưa three letters */
+    begun();
+    write_note("an za. qưa");
+    FACT(line_part(note, note_length) == PASDRONGEL_DONE);
+    FACT(memcmp(state, "\0\3\x0a\0\2\0\1\0\3\0q\0\xb0\1a\0\0\0\0\0\0\0\0\0\0\0", LINE_STATE) == 0);
+    for (i = 1; i < 256; i++)
+        if (i != PASDRONGEL_REFUSED_FOREIGN)
+            no_line_at(0, (uint8_t)i);
+    no_line_at(1, 2);      /* a kept letter past the open word */
+    no_line_at(1, WORD + 1);
+    no_line_at(1, 255);
+    no_line_at(2, 7);      /* the open word does not fit after those that have ended */
+    no_line_at(3, 17);     /* over 4,096 letters */
+    no_line_at(4, 0);      /* a no that is no word */
+    no_line_at(4, 4);      /* more words than there are letters and gaps for */
+    no_line_at(5, 1);
+    no_line_at(6, 3);      /* more noes than words */
+    no_line_at(6, 0);      /* a place of none */
+    no_line_at(7, 1);
+    no_line_at(8, 6);      /* a place from which on there are no letters for it */
+    no_line_at(9, 1);
+    no_line_at(10, ' ');   /* kept letters that no word has */
+    no_line_at(10, '.');
+    no_line_at(11, 2);
+    no_line_at(12, 0xb1);
+    no_line_at(13, 0x80);
+    for (i = 16; i < LINE_STATE; i++)
+        no_line_at(i, 1);
+    every_byte();
+    state[0] = PASDRONGEL_REFUSED_FOREIGN;
+    repeats(PASDRONGEL_REFUSED_FOREIGN);
+    /* eight letters are kept, and no ninth; 6 has ended a line of 64 letters in a word or of 4,096 */
+    begun();
+    write_note("nghuyêchh"), add("h", WORD - 9);
+    FACT(line_part(note, WORD) == PASDRONGEL_DONE && state[1] == WORD && state[24] == 'h' && state[25] == 0);
+    every_byte();
+    FACT(line_part(note, 1) == PASDRONGEL_REFUSED_LONG);
+    every_byte();
+    no_line_at(1, WORD - 1);
+    begun();
+    note_length = 0, add(" ", LINE), add("b", 1);
+    FACT(line_part(note, LINE) == PASDRONGEL_DONE && two(state + 2) == LINE);
+    FACT(line_part(note + LINE, 1) == PASDRONGEL_REFUSED_LONG);
+    every_byte();
+    no_line_at(2, 1);
+    /* the counts at their edges: each word that has ended took a letter and a gap, from its place on */
+    FACT(counts_are_sound(2, 1, 0, 0) && !counts_are_sound(1, 1, 0, 0) && !counts_are_sound(2, 1, 0, 1) && !counts_are_sound(2, 0, 0, 1));
+    FACT(counts_are_sound(2, 1, 1, 0) && !counts_are_sound(2, 1, 1, 1) && counts_are_sound(3, 1, 1, 1) && !counts_are_sound(3, 1, 2, 0));
+    FACT(counts_are_sound(4, 2, 1, 2) && !counts_are_sound(4, 2, 1, 1) && counts_are_sound(5, 2, 1, 1) && !counts_are_sound(5, 2, 1, 4));
+    FACT(counts_are_sound(LINE, LINE / 2, LINE / 2, 0) && !counts_are_sound(LINE, LINE / 2 + 1, 0, 0));
+    FACT(counts_are_sound(LINE, 1, 1, LINE - 2) && !counts_are_sound(LINE, 1, 1, LINE - 1) && !counts_are_sound(LINE + 1, 0, 0, 0));
+    FACT(!counts_are_sound(65535, 65535, 65535, 65535) && !counts_are_sound(LINE, 32768, 0, 0) && !counts_are_sound(LINE, 32768, 32768, 0));
+}
+
 /* ---- the list */
 
 static int followed(const char *after, const char *expected)
@@ -1397,8 +1841,16 @@ static void null_facts(void)
     FACT(TRIED(pasdrongel_remove_last(NULL, 0, NULL, 0, counted()), NOTHING) == PASDRONGEL_REFUSED_UNSOUND);
     FACT(TRIED(pasdrongel_remove_last(given(), STATE, NULL, 0, counted()), THE_STATE | A_COUNT) == PASDRONGEL_DONE && count == 0);
     FACT(TRIED(pasdrongel_text(given(), STATE, NULL, 0, counted()), A_COUNT) == PASDRONGEL_DONE && count == 0);
-    FACT(TRIED(pasdrongel_cut(NULL, 0, counted(), lent(&the_second, NULL, sizeof(size_t))), TWO_PLACES) == PASDRONGEL_DONE);
+    FACT(TRIED(pasdrongel_cut(NULL, 0, counted(), second_count()), TWO_PLACES) == PASDRONGEL_DONE);
     FACT(count == 0 && place == 0);
+    FACT(TRIED(pasdrongel_line_check(NULL, 0, counted(), second_count(), third_count()), THREE_COUNTS) == PASDRONGEL_DONE);
+    FACT(tells(0, 0, 0));
+    FACT(TRIED(pasdrongel_line_begin(NULL, 0), NOTHING) == PASDRONGEL_REFUSED_UNSOUND);
+    FACT(TRIED(pasdrongel_line_part(NULL, 0, NULL, 0), RECORDS) == PASDRONGEL_REFUSED_UNSOUND);
+    FACT(TRIED(pasdrongel_line_part(NULL, 0, &a, 1), RECORDS) == PASDRONGEL_REFUSED_UNSOUND);
+    FACT(TRIED(pasdrongel_line_answer(NULL, 0, counted(), second_count(), third_count()), THREE_COUNTS) == PASDRONGEL_REFUSED_UNSOUND);
+    begun();
+    FACT(TRIED(pasdrongel_line_part(given(), LINE_STATE, NULL, 0), THE_STATE) == PASDRONGEL_DONE && is_line(state));
     FACT(TRIED(pasdrongel_verdict(NULL, 0, told_yes()), THE_NUMBER) == PASDRONGEL_DONE && number == 0);
     FACT(TRIED(pasdrongel_word(0, NULL, 0, counted()), NOTHING) == PASDRONGEL_REFUSED_SHORT);
     FACT(TRIED(pasdrongel_next_word(NULL, 0, room_for(9), 9, counted()), THE_LETTERS) == PASDRONGEL_DONE && wrote("a"));
@@ -1437,7 +1889,9 @@ int main(void)
 {
     size_t i;
     for (i = 0; i < EVERYTHING; i++)
-        lent_open(everything[i]);
+        lent_open(everything[i], 1);
+    lent_open(&the_third, 1);
+    lent_open(&the_line, 5); /* 4,097 letters and some more */
     library_facts();
     letters_facts();
     utf8_facts();
@@ -1451,6 +1905,9 @@ int main(void)
     draft_facts();
     method_facts();
     speller_facts();
+    line_facts();
+    line_part_facts();
+    line_state_facts();
     list_facts();
     null_facts();
     printf("%lu facts about %lu calls, %lu do not hold\n", facts, calls, failures);

@@ -28,6 +28,10 @@ WRAP(set_method, uint8_t *state, size_t size, uint32_t method);
 WRAP(undo, uint8_t *state, size_t size, uint32_t trigger, const uint32_t *raw, size_t length, uint32_t *behaviour);
 WRAP(write_draft, const uint8_t *state, size_t size, uint8_t *draft, size_t room, size_t *count);
 WRAP(read_draft, const uint8_t *draft, size_t length, uint8_t *state, size_t size);
+WRAP(line_check, const uint32_t *line, size_t length, size_t *words, size_t *no, size_t *first);
+WRAP(line_begin, uint8_t *state, size_t size);
+WRAP(line_part, uint8_t *state, size_t size, const uint32_t *letters, size_t length);
+WRAP(line_answer, const uint8_t *state, size_t size, size_t *words, size_t *no, size_t *first);
 WRAP(is_separator, uint32_t letter, uint32_t *yes);
 WRAP(read_utf8, const uint8_t *bytes, size_t length, uint32_t *letters, size_t room, size_t *count);
 
@@ -350,6 +354,142 @@ uint32_t __wrap_pasdrongel_read_draft(const uint8_t *draft, size_t length, uint8
             state[HEAD + 8 * i + 6] = 0; /* no tone is read */
     if (fault(66) && state[2] == PASDRONGEL_CELLS)
         memset(state + STATE - 8, 0, 8), state[2]--; /* the last cell of all is not read */
+    return refusal;
+}
+
+#define LINE PASDRONGEL_LINE_LETTERS
+#define LINE_STATE PASDRONGEL_LINE_STATE_BYTES
+
+static int separates(uint32_t letter)
+{
+    return letter < 0x80 && letter != 0 && strchr("\t\n\v\f\r .,!?;:", (int)letter) != NULL;
+}
+
+/* Where the last word that is judged no begins. */
+static size_t last_no(const uint32_t *line, size_t length)
+{
+    size_t at = length, end;
+    uint32_t yes;
+    for (;;) {
+        while (at > 0 && separates(line[at - 1]))
+            at--;
+        end = at;
+        while (at > 0 && !separates(line[at - 1]))
+            at--;
+        if (end == at || (pasdrongel_verdict(line + at, end - at, &yes) == PASDRONGEL_DONE && yes == 0))
+            return at;
+    }
+}
+
+uint32_t __wrap_pasdrongel_line_check(const uint32_t *line, size_t length, size_t *words, size_t *no, size_t *first)
+{
+    size_t i, before = *first, end = length;
+    uint32_t refusal;
+    if (fault(67) && length > LINE)
+        return PASDRONGEL_REFUSED_LONG; /* before its letters are looked at */
+    if (fault(68) && length > 0 && line[length] == 7)
+        return PASDRONGEL_REFUSED_FOREIGN; /* reads past what is lent */
+    for (i = length; fault(69) && i > 0; i--)
+        if (line[i - 1] == 0x0a)
+            end = i - 1;    /* a line ends at the first line feed */
+    refusal = __real_pasdrongel_line_check(line, end, words, no, first);
+    if (fault(70) && refusal != PASDRONGEL_DONE)
+        *words = 0;         /* a refusal that answers */
+    if (refusal != PASDRONGEL_DONE)
+        return refusal;
+    if (fault(71) && *no == 0)
+        *first = 0;         /* a line without such a word has a place of one */
+    if (fault(72))
+        *first |= before & ~(size_t)UINT32_MAX; /* the low half of the number is written */
+    if (fault(73) && *no > 0)
+        *first = last_no(line, length); /* the place of the last one */
+    if (fault(74) && length > 0 && separates(line[length - 1]))
+        ++*words;           /* what stands after the last gap is a word, of no letters */
+    if (fault(75))
+        *words &= 0xff;     /* they are counted in one byte */
+    return refusal;
+}
+
+uint32_t __wrap_pasdrongel_line_begin(uint8_t *state, size_t size)
+{
+    size_t words, no, first;
+    uint8_t before = size == LINE_STATE ? state[24] : 0;
+    uint32_t refusal;
+    if (fault(76) && size == LINE_STATE && __real_pasdrongel_line_answer(state, size, &words, &no, &first) == PASDRONGEL_REFUSED_UNSOUND)
+        return PASDRONGEL_REFUSED_UNSOUND; /* looks at what stood there */
+    if (fault(77) && size > LINE_STATE)
+        size = LINE_STATE;  /* takes what is longer */
+    refusal = __real_pasdrongel_line_begin(state, size);
+    if (fault(78) && refusal == PASDRONGEL_DONE)
+        state[24] = before; /* the last letter of a word is left */
+    return refusal;
+}
+
+uint32_t __wrap_pasdrongel_line_part(uint8_t *state, size_t size, const uint32_t *letters, size_t length)
+{
+    uint8_t before[LINE_STATE] = {0};
+    uint32_t space = ' ', refusal;
+    if (size == LINE_STATE)
+        memcpy(before, state, LINE_STATE);
+    if (fault(79) && letters == NULL)
+        return PASDRONGEL_REFUSED_UNSOUND; /* asks where an empty part stands */
+    if (fault(80) && length == 0 && size == LINE_STATE)
+        state[0] = 0;       /* an empty part forgets the refusal */
+    if (fault(81) && size == LINE_STATE && state[0] == PASDRONGEL_REFUSED_LONG)
+        state[0] = 0;       /* so does any part after a 6 */
+    refusal = __real_pasdrongel_line_part(state, size, letters, length);
+    if (fault(82) && refusal == PASDRONGEL_REFUSED_UNSOUND && size == LINE_STATE)
+        state[0] = 0;       /* a refusal by 10 that changes something */
+    if (fault(83) && refusal == PASDRONGEL_REFUSED_FOREIGN)
+        memcpy(state, before, LINE_STATE); /* a refused letter takes back its part, and is not recorded */
+    if (fault(84) && refusal == PASDRONGEL_REFUSED_LONG)
+        memcpy(state + 1, before + 1, LINE_STATE - 1); /* it is recorded, and its part taken back */
+    if (fault(85) && refusal == PASDRONGEL_DONE && state[1] > 0 && state[1] < 9)
+        __real_pasdrongel_line_part(state, size, &space, 1); /* a word ends with its part */
+    if (fault(86) && refusal == PASDRONGEL_DONE && state[1] < 8)
+        state[24] = 1;      /* a letter is kept past the open word: unsound */
+    return refusal;
+}
+
+/* A state that is not sound, changed to one that this fault takes it for. */
+static void taken_for_line(const uint8_t *state, uint8_t *other)
+{
+    size_t i, length = state[2] + 256u * state[3], words = state[4] + 256u * state[5];
+    memcpy(other, state, LINE_STATE);
+    if (fault(87) && state[8] % 2 == 1 && 2 * words + state[1] == length)
+        other[8]--;         /* before an odd place there may be half a word */
+    if (fault(88) && state[0] == PASDRONGEL_REFUSED_LONG)
+        other[0] = PASDRONGEL_REFUSED_FOREIGN; /* 6 may have ended any line */
+    if (fault(89) && state[6] == 0 && state[7] == 0)
+        other[8] = other[9] = 0; /* the place of none may be any */
+    for (i = 0; i < 8; i++)
+        if (fault(90) && i < state[1] && state[11 + 2 * i] == 0 && separates(state[10 + 2 * i]))
+            other[10 + 2 * i] = 'a'; /* a gap may stand in a word */
+    if (fault(91) && state[1] < 8)
+        other[24] = other[25] = 0; /* what stands past the open word is not looked at */
+}
+
+uint32_t __wrap_pasdrongel_line_answer(const uint8_t *state, size_t size, size_t *words, size_t *no, size_t *first)
+{
+    uint8_t other[LINE_STATE];
+    uint32_t refusal;
+    if (fault(92) && size == LINE_STATE && *words % 2 == 0 && state[1] == 0)
+        return PASDRONGEL_REFUSED_UNSOUND; /* goes by what stood in an output */
+    if (size == LINE_STATE) {
+        taken_for_line(state, other);
+        state = other;
+    }
+    refusal = __real_pasdrongel_line_answer(state, size, words, no, first);
+    if (fault(93) && refusal != PASDRONGEL_DONE)
+        *no = 0;            /* a refusal that answers */
+    if (fault(94) && refusal == PASDRONGEL_DONE && state[1] > 0)
+        --*words;           /* the open word is not counted */
+    if (fault(95) && (refusal == PASDRONGEL_REFUSED_FOREIGN || refusal == PASDRONGEL_REFUSED_LONG)) {
+        *words = *no = *first = 0;
+        return PASDRONGEL_DONE; /* a line that has ended may be told */
+    }
+    if (fault(96) && refusal == PASDRONGEL_DONE && *no == 0)
+        *first = 0;         /* the place is that of the state */
     return refusal;
 }
 

@@ -1,9 +1,10 @@
-/* Random calls of the header, in sessions on one composition, with guards around everything that is lent.
+/* Random calls of the header, in sessions on one composition and one note line, with guards around everything that is lent.
  *
  *   SEED=7 SCALE=20 fuzz      other calls, and twenty times as many; the last line is `N calls, F faults`
  *
  * Of each call it is asked, whatever it is given:
- * - It returns 0 or one of its own refusals, and by 10 exactly where the bytes are no sound composition.
+ * - It returns 0 or one of its own refusals, and by 10 exactly where the bytes are no sound composition, or no sound state of a
+ *   line.
  * - Nothing outside of what it is lent is read or written (lent.h), and nothing that is lent to be read is written.
  * - After a refusal nothing has changed. After an answer: the answer alone, at the start of the output.
  * - What was a sound composition is one after the call, by a test of the bytes that is written here. The method, the mode,
@@ -12,6 +13,9 @@
  *   the other setting every call does the same, but for the capitals that it shows and a flag that it takes (hold_capitals).
  * - A composition is written as the one draft that it has, and that draft is read as this composition, whatever stood there.
  *   Bytes are refused by 11 exactly where they are no draft; what is read of others is written back as the same bytes.
+ * - A note line is told and refused as a count of its words says that is made here, by the verdict; in parts it is told and refused
+ *   as the whole is, whatever the cuts, its state is that of all letters that have come, and a refused letter stays recorded. This
+ *   is the one refusal that changes what is lent.
  * - The same call on other memory, with other content in its outputs, does the same.
  * - It makes no difference whether an empty buffer is NULL.
  * - A refusal by 3 is one for want of room: with enough of it the answer is longer than the room was. And an answer with
@@ -28,6 +32,9 @@
 #define MOST_STATE (2 * STATE)
 #define MOST_INPUT 300
 #define MOST_ROOM 300
+#define LINE PASDRONGEL_LINE_LETTERS
+#define LINE_STATE PASDRONGEL_LINE_STATE_BYTES
+#define MOST_LINE (LINE + 8)
 #define MOST_SHOWN 20
 #define REFUSALS 12
 
@@ -59,6 +66,7 @@ struct given {
     uint8_t state[MOST_STATE];
     size_t state_size;
     uint32_t input[MOST_INPUT]; /* letters, or bytes one in each */
+    const uint32_t *line;       /* in their place the letters of a note line, which are many */
     size_t length;
     uint32_t a, b, c;           /* numbers */
     size_t room;
@@ -71,7 +79,7 @@ struct places {
     size_t length;
     void *output;
     size_t room;
-    void *first, *second;
+    void *first, *second, *third;
 };
 
 typedef uint32_t caller(const struct given *g, const struct places *p);
@@ -121,6 +129,10 @@ CALL(is_horn_key, g->a, g->b, p->first)
 CALL(mark_for, g->a, g->b, g->c, p->first)
 CALL(cut, WITH_INPUT, p->first, p->second)
 CALL(verdict, WITH_INPUT, p->first)
+CALL(line_check, WITH_INPUT, p->first, p->second, p->third)
+CALL(line_begin, WITH_STATE)
+CALL(line_part, WITH_STATE, WITH_INPUT)
+CALL(line_answer, WITH_STATE, p->first, p->second, p->third)
 CALL(total, p->first)
 CALL(word, g->a, WITH_OUTPUT)
 CALL(next_word, WITH_INPUT, WITH_OUTPUT)
@@ -134,8 +146,8 @@ static uint32_t call_composition_bytes(const struct given *g, const struct place
 
 /* What `a` is for; `b` and `c` are letters. */
 enum numbers { NO_NUMBER, LETTER, KEY, SETTING, PLACE };
-/* What becomes of the composition. */
-enum use { NO_STATE, READ, CHANGED, MADE };
+/* What becomes of the composition, or of the state of a line. */
+enum use { NO_STATE, READ, CHANGED, MADE, LINE_READ, LINE_CHANGED, LINE_MADE };
 
 #define R(n) (1u << (n))
 
@@ -146,49 +158,74 @@ static const struct kind {
     enum use use;
     enum numbers numbers;
     size_t input, output;   /* the bytes of an item; 0 if there is none */
-    size_t first, second;   /* the bytes of the lent numbers */
+    size_t first, second, third; /* the bytes of the lent numbers */
     unsigned weight;        /* how often, against the others */
 } kinds[] = {
-    {"check_letter", call_check_letter, R(1), NO_STATE, LETTER, 0, 0, 0, 0, 1},
-    {"lower", call_lower, R(1), NO_STATE, LETTER, 0, 0, 4, 0, 1},
-    {"upper", call_upper, R(1), NO_STATE, LETTER, 0, 0, 4, 0, 1},
-    {"is_capital", call_is_capital, R(1), NO_STATE, LETTER, 0, 0, 4, 0, 1},
-    {"is_white_space", call_is_white_space, R(1), NO_STATE, LETTER, 0, 0, 4, 0, 1},
-    {"is_separator", call_is_separator, R(1), NO_STATE, LETTER, 0, 0, 4, 0, 8},
-    {"tone_on", call_tone_on, R(1), NO_STATE, LETTER, 0, 0, 4, 0, 1},
-    {"tone_off", call_tone_off, R(1), NO_STATE, LETTER, 0, 0, 4, 0, 1},
-    {"is_composer_vowel", call_is_composer_vowel, R(1), NO_STATE, LETTER, 0, 0, 4, 0, 1},
-    {"is_speller_vowel", call_is_speller_vowel, R(1), NO_STATE, LETTER, 0, 0, 4, 0, 1},
-    {"read_utf8", call_read_utf8, R(6) | R(8) | R(1) | R(3), NO_STATE, NO_NUMBER, 1, 4, sizeof(size_t), 0, 8},
-    {"write_utf8", call_write_utf8, R(6) | R(1) | R(3), NO_STATE, NO_NUMBER, 4, 1, sizeof(size_t), 0, 6},
-    {"new", call_new, R(10), MADE, SETTING, 0, 0, 0, 0, 1},
-    {"composition_bytes", call_composition_bytes, 0, NO_STATE, NO_NUMBER, 0, 0, 0, 0, 1},
-    {"check_composition", call_check_composition, R(10), READ, NO_NUMBER, 0, 0, 0, 0, 12},
-    {"method", call_method, R(10), READ, NO_NUMBER, 0, 0, 4, 0, 4},
-    {"mode", call_mode, R(10), READ, NO_NUMBER, 0, 0, 4, 0, 4},
-    {"capitals", call_capitals, R(10), READ, NO_NUMBER, 0, 0, 4, 0, 4},
-    {"count", call_count, R(10), READ, NO_NUMBER, 0, 0, sizeof(size_t), 0, 4},
-    {"key", call_key, R(10) | R(1) | R(2) | R(3), CHANGED, KEY, 0, 4, sizeof(size_t), 0, 120},
-    {"literal", call_literal, R(10) | R(1) | R(2), CHANGED, KEY, 0, 0, 0, 0, 12},
-    {"text", call_text, R(10) | R(3), READ, NO_NUMBER, 0, 4, sizeof(size_t), 0, 8},
-    {"remove_last", call_remove_last, R(10) | R(4) | R(3), CHANGED, NO_NUMBER, 0, 4, sizeof(size_t), 0, 16},
-    {"reset", call_reset, R(10), CHANGED, NO_NUMBER, 0, 0, 0, 0, 1},
-    {"set_method", call_set_method, R(10), CHANGED, SETTING, 0, 0, 0, 0, 1},
-    {"set_mode", call_set_mode, R(10), CHANGED, SETTING, 0, 0, 0, 0, 1},
-    {"set_capitals", call_set_capitals, R(10), CHANGED, SETTING, 0, 0, 0, 0, 8},
-    {"undo", call_undo, R(10) | R(6) | R(1) | R(5), CHANGED, KEY, 4, 0, 4, 0, 16},
-    {"write_draft", call_write_draft, R(10) | R(3), READ, NO_NUMBER, 0, 1, sizeof(size_t), 0, 12},
-    {"read_draft", call_read_draft, R(10) | R(11), MADE, NO_NUMBER, 1, 0, 0, 0, 16},
-    {"is_tone_key", call_is_tone_key, R(10) | R(1), NO_STATE, SETTING, 0, 0, 4, 0, 1},
-    {"is_horn_key", call_is_horn_key, R(10) | R(1), NO_STATE, SETTING, 0, 0, 4, 0, 1},
-    {"mark_for", call_mark_for, R(10) | R(1), NO_STATE, SETTING, 0, 0, 4, 0, 2},
-    {"cut", call_cut, R(6) | R(1), NO_STATE, NO_NUMBER, 4, 0, sizeof(size_t), sizeof(size_t), 6},
-    {"verdict", call_verdict, R(6) | R(1), NO_STATE, NO_NUMBER, 4, 0, 4, 0, 6},
-    {"total", call_total, 0, NO_STATE, NO_NUMBER, 0, 0, sizeof(size_t), 0, 1},
-    {"word", call_word, R(7) | R(3), NO_STATE, PLACE, 0, 4, sizeof(size_t), 0, 6},
-    {"next_word", call_next_word, R(6) | R(1) | R(7) | R(3), NO_STATE, NO_NUMBER, 4, 4, sizeof(size_t), 0, 8},
+    {"check_letter", call_check_letter, R(1), NO_STATE, LETTER, 0, 0, 0, 0, 0, 1},
+    {"lower", call_lower, R(1), NO_STATE, LETTER, 0, 0, 4, 0, 0, 1},
+    {"upper", call_upper, R(1), NO_STATE, LETTER, 0, 0, 4, 0, 0, 1},
+    {"is_capital", call_is_capital, R(1), NO_STATE, LETTER, 0, 0, 4, 0, 0, 1},
+    {"is_white_space", call_is_white_space, R(1), NO_STATE, LETTER, 0, 0, 4, 0, 0, 1},
+    {"is_separator", call_is_separator, R(1), NO_STATE, LETTER, 0, 0, 4, 0, 0, 8},
+    {"tone_on", call_tone_on, R(1), NO_STATE, LETTER, 0, 0, 4, 0, 0, 1},
+    {"tone_off", call_tone_off, R(1), NO_STATE, LETTER, 0, 0, 4, 0, 0, 1},
+    {"is_composer_vowel", call_is_composer_vowel, R(1), NO_STATE, LETTER, 0, 0, 4, 0, 0, 1},
+    {"is_speller_vowel", call_is_speller_vowel, R(1), NO_STATE, LETTER, 0, 0, 4, 0, 0, 1},
+    {"read_utf8", call_read_utf8, R(6) | R(8) | R(1) | R(3), NO_STATE, NO_NUMBER, 1, 4, sizeof(size_t), 0, 0, 8},
+    {"write_utf8", call_write_utf8, R(6) | R(1) | R(3), NO_STATE, NO_NUMBER, 4, 1, sizeof(size_t), 0, 0, 6},
+    {"new", call_new, R(10), MADE, SETTING, 0, 0, 0, 0, 0, 1},
+    {"composition_bytes", call_composition_bytes, 0, NO_STATE, NO_NUMBER, 0, 0, 0, 0, 0, 1},
+    {"check_composition", call_check_composition, R(10), READ, NO_NUMBER, 0, 0, 0, 0, 0, 12},
+    {"method", call_method, R(10), READ, NO_NUMBER, 0, 0, 4, 0, 0, 4},
+    {"mode", call_mode, R(10), READ, NO_NUMBER, 0, 0, 4, 0, 0, 4},
+    {"capitals", call_capitals, R(10), READ, NO_NUMBER, 0, 0, 4, 0, 0, 4},
+    {"count", call_count, R(10), READ, NO_NUMBER, 0, 0, sizeof(size_t), 0, 0, 4},
+    {"key", call_key, R(10) | R(1) | R(2) | R(3), CHANGED, KEY, 0, 4, sizeof(size_t), 0, 0, 120},
+    {"literal", call_literal, R(10) | R(1) | R(2), CHANGED, KEY, 0, 0, 0, 0, 0, 12},
+    {"text", call_text, R(10) | R(3), READ, NO_NUMBER, 0, 4, sizeof(size_t), 0, 0, 8},
+    {"remove_last", call_remove_last, R(10) | R(4) | R(3), CHANGED, NO_NUMBER, 0, 4, sizeof(size_t), 0, 0, 16},
+    {"reset", call_reset, R(10), CHANGED, NO_NUMBER, 0, 0, 0, 0, 0, 1},
+    {"set_method", call_set_method, R(10), CHANGED, SETTING, 0, 0, 0, 0, 0, 1},
+    {"set_mode", call_set_mode, R(10), CHANGED, SETTING, 0, 0, 0, 0, 0, 1},
+    {"set_capitals", call_set_capitals, R(10), CHANGED, SETTING, 0, 0, 0, 0, 0, 8},
+    {"undo", call_undo, R(10) | R(6) | R(1) | R(5), CHANGED, KEY, 4, 0, 4, 0, 0, 16},
+    {"write_draft", call_write_draft, R(10) | R(3), READ, NO_NUMBER, 0, 1, sizeof(size_t), 0, 0, 12},
+    {"read_draft", call_read_draft, R(10) | R(11), MADE, NO_NUMBER, 1, 0, 0, 0, 0, 16},
+    {"is_tone_key", call_is_tone_key, R(10) | R(1), NO_STATE, SETTING, 0, 0, 4, 0, 0, 1},
+    {"is_horn_key", call_is_horn_key, R(10) | R(1), NO_STATE, SETTING, 0, 0, 4, 0, 0, 1},
+    {"mark_for", call_mark_for, R(10) | R(1), NO_STATE, SETTING, 0, 0, 4, 0, 0, 2},
+    {"cut", call_cut, R(6) | R(1), NO_STATE, NO_NUMBER, 4, 0, sizeof(size_t), sizeof(size_t), 0, 6},
+    {"verdict", call_verdict, R(6) | R(1), NO_STATE, NO_NUMBER, 4, 0, 4, 0, 0, 6},
+    {"line_check", call_line_check, R(1) | R(6), NO_STATE, NO_NUMBER, 4, 0, sizeof(size_t), sizeof(size_t), sizeof(size_t), 8},
+    {"line_begin", call_line_begin, R(10), LINE_MADE, NO_NUMBER, 0, 0, 0, 0, 0, 2},
+    {"line_part", call_line_part, R(10) | R(1) | R(6), LINE_CHANGED, NO_NUMBER, 4, 0, 0, 0, 0, 24},
+    {"line_answer", call_line_answer, R(10) | R(1) | R(6), LINE_READ, NO_NUMBER, 0, 0, sizeof(size_t), sizeof(size_t), sizeof(size_t), 8},
+    {"total", call_total, 0, NO_STATE, NO_NUMBER, 0, 0, sizeof(size_t), 0, 0, 1},
+    {"word", call_word, R(7) | R(3), NO_STATE, PLACE, 0, 4, sizeof(size_t), 0, 0, 6},
+    {"next_word", call_next_word, R(6) | R(1) | R(7) | R(3), NO_STATE, NO_NUMBER, 4, 4, sizeof(size_t), 0, 0, 8},
 };
 #define KINDS (sizeof kinds / sizeof *kinds)
+
+static int on_line(const struct kind *kind)
+{
+    return kind->use >= LINE_READ;
+}
+
+static int makes(const struct kind *kind)
+{
+    return kind->use == MADE || kind->use == LINE_MADE;
+}
+
+static int changes(const struct kind *kind)
+{
+    return kind->use == CHANGED || kind->use == LINE_CHANGED || makes(kind);
+}
+
+/* Does it read the letters of a line? */
+static int reads_line(const struct kind *kind)
+{
+    return kind->call == call_line_check || kind->call == call_line_part;
+}
 
 /* The buffers of a call, in the order of `struct places`. */
 enum buffers { STATE_BUFFER, INPUT_BUFFER, OUTPUT_BUFFER, BUFFERS };
@@ -232,6 +269,97 @@ static int is_sound(const uint8_t *state, size_t size)
         if (i < state[2] ? !is_cell(state + HEAD + 8 * i) : memcmp(state + HEAD + 8 * i, blank, 8) != 0)
             return 0;
     return 1;
+}
+
+/* ---- note lines: the state, as docs/BYTES.md has it, and what is told of a line */
+
+static int separates(uint32_t letter)
+{
+    static const char separators[] = "\t\n\v\f\r .,!?;:";
+    return letter < 0x80 && memchr(separators, (int)letter, sizeof separators - 1) != NULL;
+}
+
+static size_t two(const uint8_t *at)
+{
+    return at[0] | (size_t)at[1] << 8;
+}
+
+static int counts_fit(size_t length, size_t words, size_t noes, size_t first)
+{
+    if (noes == 0)
+        return first == 0 && 2 * words <= length;
+    return noes <= words && first + 2 * noes <= length && 2 * words + first % 2 <= length;
+}
+
+static int is_sound_line(const uint8_t *state, size_t size)
+{
+    size_t i, run, length;
+    if (size != LINE_STATE || (state[0] != 0 && state[0] != 1 && state[0] != 6))
+        return 0;
+    run = state[1], length = two(state + 2);
+    if (run > PASDRONGEL_WORD_LETTERS || length > LINE || run > length)
+        return 0;
+    if (state[0] == 6 && run != PASDRONGEL_WORD_LETTERS && length != LINE)
+        return 0;
+    if (!counts_fit(length - run, two(state + 4), two(state + 6), two(state + 8)))
+        return 0;
+    for (i = 0; i < 8; i++) {
+        uint32_t letter = (uint32_t)two(state + 10 + 2 * i);
+        if (i < run ? !is_letter(letter) || separates(letter) : letter != 0)
+            return 0;
+    }
+    return 1;
+}
+
+/* The refusal of a line: that of the first letter which has one. `*before` letters stand before it, or all. */
+static uint32_t line_fault(const uint32_t *line, size_t length, size_t *before)
+{
+    size_t at, run = 0;
+    for (at = 0; at < length; at++) {
+        *before = at;
+        if (!is_letter(line[at]))
+            return PASDRONGEL_REFUSED_FOREIGN;
+        run = separates(line[at]) ? 0 : run + 1;
+        if (at >= LINE || run > PASDRONGEL_WORD_LETTERS)
+            return PASDRONGEL_REFUSED_LONG;
+    }
+    *before = length;
+    return PASDRONGEL_DONE;
+}
+
+/* The words of a line that is not refused, those judged no, and where the first of them begins. */
+static void line_counts(const uint32_t *line, size_t length, size_t told[3])
+{
+    size_t at, end;
+    uint32_t yes = 0;
+    told[0] = told[1] = 0, told[2] = length;
+    for (at = 0; at < length; at = end + 1) {
+        for (end = at; end < length && !separates(line[end]); end++)
+            ;
+        if (end == at)
+            continue;
+        calls++;
+        told[0]++;
+        if (PASDRONGEL_REFUSAL(pasdrongel_verdict(line + at, end - at, &yes)) == PASDRONGEL_DONE && yes == 0 && told[1]++ == 0)
+            told[2] = at;
+    }
+}
+
+/* The state of a line that has come so far, and was then ended by a refusal or by none. */
+static void line_bytes(const uint32_t *line, size_t length, uint32_t refusal, uint8_t *state)
+{
+    size_t i, run = 0, numbers[12] = {0};
+    while (run < length && !separates(line[length - 1 - run]))
+        run++;
+    numbers[0] = length;
+    line_counts(line, length - run, numbers + 1);
+    if (numbers[2] == 0)
+        numbers[3] = 0;
+    for (i = 0; i < 8 && i < run; i++)
+        numbers[4 + i] = line[length - run + i];
+    state[0] = (uint8_t)refusal, state[1] = (uint8_t)run;
+    for (i = 0; i < 12; i++)
+        state[2 + 2 * i] = (uint8_t)numbers[i], state[3 + 2 * i] = (uint8_t)(numbers[i] >> 8);
 }
 
 /* ---- the draft of a composition, as docs/DRAFTS.md has it */
@@ -280,13 +408,14 @@ static int is_draft(const uint8_t *draft, size_t length, uint8_t *state)
 
 /* ---- one call, held to what is asked of it */
 
-static struct lent the_state, the_input, the_output, the_first, the_second;
+static struct lent the_state, the_input, the_output, the_first, the_second, the_third;
+static struct lent the_line; /* what stands in the place of the input where that is a line: it has more pages */
 
 struct left {
     uint32_t refusal;
     uint8_t state[MOST_STATE];
     size_t count;
-    uint8_t output[4 * MOST_ROOM], first[8], second[8];
+    uint8_t output[4 * MOST_ROOM], first[8], second[8], third[8];
 };
 
 #ifdef PAINTED
@@ -312,13 +441,13 @@ static uint32_t call_nothing(const struct given *g, const struct places *p)
 /* What a call takes is what it touches more than an empty one, which has touched its return address. */
 static uint32_t made(const struct kind *kind, const struct given *g, const struct places *p)
 {
-    static const struct kind empty = {"nothing", call_nothing, 0, NO_STATE, NO_NUMBER, 0, 0, 0, 0, 0};
+    static const struct kind empty = {"nothing", call_nothing, 0, NO_STATE, NO_NUMBER, 0, 0, 0, 0, 0, 0};
     size_t touched;
     ran_with = g, ran_on = p;
     if (nothing == 0)
-        ran = &empty, nothing = touched_by(run) - sizeof(void *);
+        ran = &empty, nothing = touched_by(run, SHALLOW) - sizeof(void *);
     ran = kind;
-    touched = touched_by(run) - nothing;
+    touched = touched_by(run, kind->call == call_line_check ? PAINTED_WORDS : SHALLOW) - nothing;
     if (touched > deepest[kind - kinds])
         deepest[kind - kinds] = touched;
     return ran_to;
@@ -345,24 +474,31 @@ static void *lend_buffer(const struct kind *kind, enum buffers which, struct len
     return NULL;
 }
 
+/* Where the input of a call is lent. */
+static struct lent *input_of(const struct kind *kind)
+{
+    return reads_line(kind) ? &the_line : &the_input;
+}
+
 static void make_call(const struct kind *kind, const struct given *g, enum end end, unsigned char guard, struct left *left)
 {
     uint8_t narrow[MOST_INPUT], before[4 * MOST_ROOM];
+    const void *input = kind->input == 1 ? (const void *)narrow : reads_line(kind) ? g->line : g->input;
     struct places p;
     size_t i;
-    for (i = 0; i < g->length; i++)
+    for (i = 0; kind->input == 1 && i < g->length; i++)
         narrow[i] = (uint8_t)g->input[i];
     for (i = 0; i < sizeof before; i++)
         before[i] = (uint8_t)random_word();
     p.state = lend_buffer(kind, STATE_BUFFER, &the_state, g->state, kind->use == NO_STATE ? 0 : g->state_size, end, guard);
     p.state_size = the_state.size;
-    p.input = lend_buffer(kind, INPUT_BUFFER, &the_input, kind->input == 1 ? (const void *)narrow : g->input,
-                          kind->input * g->length, end, guard);
+    p.input = lend_buffer(kind, INPUT_BUFFER, input_of(kind), input, kind->input * g->length, end, guard);
     p.length = g->length;
     p.output = lend_buffer(kind, OUTPUT_BUFFER, &the_output, before, kind->output * g->room, end, guard);
     p.room = g->room;
     p.first = lend(&the_first, before, kind->first, end, guard);
     p.second = lend(&the_second, before, kind->second, end, guard);
+    p.third = lend(&the_third, before, kind->third, end, guard);
     calls++;
     left->refusal = PASDRONGEL_REFUSAL(made(kind, g, &p));
     left->count = 0;
@@ -376,28 +512,43 @@ static void make_call(const struct kind *kind, const struct given *g, enum end e
     memcpy(left->output, the_output.at, left->count * kind->output);
     memset(left->first, 0, sizeof left->first);
     memset(left->second, 0, sizeof left->second);
+    memset(left->third, 0, sizeof left->third);
     if (left->refusal == PASDRONGEL_DONE) {
         memcpy(left->first, p.first, kind->first);
         memcpy(left->second, p.second, kind->second);
+        memcpy(left->third, p.third, kind->third);
     }
+}
+
+/* The one refusal that changes something: a part whose letter is refused. */
+static int records(const struct kind *kind, uint32_t refusal)
+{
+    return kind->call == call_line_part && (refusal == PASDRONGEL_REFUSED_FOREIGN || refusal == PASDRONGEL_REFUSED_LONG);
 }
 
 static void hold_memory(const struct kind *kind, const struct left *left)
 {
     int done = left->refusal == PASDRONGEL_DONE;
-    if (!kept(&the_input, 0))
+    if (!kept(input_of(kind), 0))
         fault(kind, "what was lent to be read has changed, or what is beside it");
-    if (!kept(&the_state, done && kind->use >= CHANGED ? the_state.size : 0))
+    if (!kept(&the_state, (done && changes(kind)) || records(kind, left->refusal) ? the_state.size : 0))
         fault(kind, done ? "the composition has changed, or what is beside it" : "a refusal changed the composition");
     if (!kept(&the_output, left->count * kind->output))
         fault(kind, done ? "the output has changed past the answer" : "a refusal changed the output");
-    if (!kept(&the_first, done ? kind->first : 0) || !kept(&the_second, done ? kind->second : 0))
+    if (!kept(&the_first, done ? kind->first : 0) || !kept(&the_second, done ? kind->second : 0)
+        || !kept(&the_third, done ? kind->third : 0))
         fault(kind, done ? "what is beside a lent number has changed" : "a refusal changed a lent number");
+}
+
+/* Is this what the call may be given, or may leave? */
+static int is_sound_for(const struct kind *kind, const uint8_t *state, size_t size)
+{
+    return kind->use == NO_STATE || (on_line(kind) ? is_sound_line(state, size) : is_sound(state, size));
 }
 
 static void hold_answer(const struct kind *kind, const struct given *g, const struct left *left)
 {
-    int sound = kind->use == NO_STATE || is_sound(g->state, g->state_size);
+    int sound = is_sound_for(kind, g->state, g->state_size);
     uint32_t letter;
     size_t i;
     if (left->refusal != PASDRONGEL_DONE && (left->refusal >= REFUSALS || !(kind->refusals & R(left->refusal)))) {
@@ -405,16 +556,16 @@ static void hold_answer(const struct kind *kind, const struct given *g, const st
         return;
     }
     met[kind - kinds][left->refusal]++;
-    if (kind->use == MADE)
-        sound = g->state_size == STATE;
+    if (makes(kind))
+        sound = g->state_size == (on_line(kind) ? LINE_STATE : STATE);
     if (kind->numbers == SETTING)
         sound = sound && g->a <= 1;
     if (sound == (left->refusal == PASDRONGEL_REFUSED_UNSOUND))
-        fault(kind, sound ? "a sound composition is refused by 10" : "an unsound composition is not refused by 10");
+        fault(kind, sound ? "a sound composition or line is refused by 10" : "an unsound composition or line is not refused by 10");
+    if (sound && !is_sound_for(kind, left->state, g->state_size) && !(makes(kind) && left->refusal != PASDRONGEL_DONE))
+        fault(kind, "it left an unsound composition or line");
     if (left->refusal != PASDRONGEL_DONE)
         return;
-    if (kind->use != NO_STATE && !is_sound(left->state, g->state_size))
-        fault(kind, "it left an unsound composition");
     for (i = 0; kind->output == 4 && i < left->count; i++) {
         memcpy(&letter, left->output + 4 * i, sizeof letter);
         if (!is_letter(letter))
@@ -425,7 +576,6 @@ static void hold_answer(const struct kind *kind, const struct given *g, const st
 /* The numbers that are known here too. */
 static void hold_number(const struct kind *kind, const struct given *g, const struct left *left)
 {
-    static const char separators[] = "\t\n\v\f\r .,!?;:";
     uint32_t number;
     size_t cells;
     memcpy(&number, left->first, sizeof number);
@@ -435,8 +585,7 @@ static void hold_number(const struct kind *kind, const struct given *g, const st
     if ((kind->call == call_method && number != g->state[0]) || (kind->call == call_mode && number != g->state[1])
         || (kind->call == call_count && cells != g->state[2]) || (kind->call == call_capitals && number != g->state[3]))
         fault(kind, "it gives another number than the bytes have");
-    if (kind->call == call_is_separator
-        && number != (g->a < 0x80 && memchr(separators, (int)g->a, sizeof separators - 1) != NULL))
+    if (kind->call == call_is_separator && number != (uint32_t)separates(g->a))
         fault(kind, "it takes another letter for a separator");
 }
 
@@ -445,7 +594,7 @@ static void hold_setting(const struct kind *kind, const struct given *g, const s
 {
     int sets = kind->call == call_set_capitals;
     uint32_t expected = kind->use == MADE ? PASDRONGEL_CAPITALS_OFF : sets ? g->a : g->state[3];
-    if (left->refusal != PASDRONGEL_DONE || kind->use < CHANGED || kind->call == call_read_draft)
+    if (left->refusal != PASDRONGEL_DONE || !changes(kind) || on_line(kind) || kind->call == call_read_draft)
         return;
     if (left->state[3] != expected)
         fault(kind, "it leaves another setting of capitals");
@@ -507,7 +656,8 @@ static int same(const struct kind *kind, const struct given *g, const struct lef
         && memcmp(one->state, other->state, kind->use == NO_STATE ? 0 : g->state_size) == 0
         && memcmp(one->output, other->output, one->count * kind->output) == 0
         && memcmp(one->first, other->first, sizeof one->first) == 0
-        && memcmp(one->second, other->second, sizeof one->second) == 0;
+        && memcmp(one->second, other->second, sizeof one->second) == 0
+        && memcmp(one->third, other->third, sizeof one->third) == 0;
 }
 
 /* The same call with another room. */
@@ -555,8 +705,8 @@ static void hold_capitals(const struct kind *kind, const struct given *g, const 
     const struct left *on = g->state[3] == 1 ? left : &again, *off = g->state[3] == 1 ? &again : left;
     int passes = kind->call == call_key && g->state[1] == PASDRONGEL_ENGLISH;
     size_t i;
-    if (kind->use == NO_STATE || kind->use == MADE || kind->call == call_capitals || kind->call == call_set_capitals
-        || !is_sound(g->state, g->state_size))
+    if (kind->use == NO_STATE || kind->use == MADE || on_line(kind) || kind->call == call_capitals
+        || kind->call == call_set_capitals || !is_sound(g->state, g->state_size))
         return;
     other = *g;
     other.state[3] ^= 1;
@@ -583,6 +733,88 @@ static void hold_capitals(const struct kind *kind, const struct given *g, const 
     }
 }
 
+/* ---- a note line, held to its words, and its parts to the whole */
+
+/* The state of the session's line, the letters of its parts so far, and those of the next part. */
+static uint8_t note[LINE_STATE];
+static uint32_t come[2 * MOST_LINE], part[MOST_LINE];
+static size_t come_length;
+
+/* Are the numbers that were told those of this line, which is not refused? */
+static int tells_of(const struct left *left, const uint32_t *line, size_t length)
+{
+    size_t told[3];
+    line_counts(line, length, told);
+    return memcmp(&told[0], left->first, sizeof *told) == 0 && memcmp(&told[1], left->second, sizeof *told) == 0
+        && memcmp(&told[2], left->third, sizeof *told) == 0;
+}
+
+static void hold_check(const struct kind *kind, const struct given *g, const struct left *left)
+{
+    size_t before;
+    if (left->refusal != line_fault(g->line, g->length, &before))
+        fault(kind, "it refuses another letter than the first that is to be refused, or none");
+    else if (left->refusal == PASDRONGEL_DONE && !tells_of(left, g->line, g->length))
+        fault(kind, "it tells something else of the words of a line");
+}
+
+/* A part on any sound state: it is the two parts that it is cut into, and after a refusal it is recorded and repeated. */
+static void hold_part(const struct kind *kind, const struct given *g, const struct left *left)
+{
+    uint8_t state[LINE_STATE];
+    size_t told[3], cut = below((uint32_t)g->length + 1);
+    uint32_t refusal;
+    if (!is_sound_line(g->state, g->state_size))
+        return;
+    memcpy(state, g->state, LINE_STATE);
+    calls += 4;
+    pasdrongel_line_part(state, LINE_STATE, g->line, cut);
+    refusal = PASDRONGEL_REFUSAL(pasdrongel_line_part(state, LINE_STATE, g->line + cut, g->length - cut));
+    if (refusal != left->refusal || memcmp(state, left->state, LINE_STATE) != 0)
+        fault(kind, "it does something else where the part is cut in two");
+    if (left->state[0] != left->refusal || (g->state[0] != 0 && memcmp(left->state, g->state, LINE_STATE) != 0))
+        fault(kind, "it does not record the refusal, or changes a line that has ended");
+    if (left->refusal == PASDRONGEL_DONE && two(left->state + 2) != two(g->state + 2) + g->length)
+        fault(kind, "it counts another number of letters");
+    if (PASDRONGEL_REFUSAL(pasdrongel_line_part(state, LINE_STATE, NULL, 0)) != refusal
+        || memcmp(state, left->state, LINE_STATE) != 0
+        || PASDRONGEL_REFUSAL(pasdrongel_line_answer(state, LINE_STATE, &told[0], &told[1], &told[2])) != refusal)
+        fault(kind, "what follows does not repeat its refusal, or is refused after none");
+}
+
+/* The session's line, which has come in parts, against the same letters as a whole. */
+static void hold_whole(const struct kind *kind, const struct left *left)
+{
+    uint8_t state[LINE_STATE];
+    size_t length;
+    uint32_t refusal = line_fault(come, come_length, &length);
+    line_bytes(come, length, refusal, state);
+    if (left->refusal != refusal)
+        fault(kind, "in parts a line is refused otherwise than as a whole");
+    else if (memcmp(left->state, state, LINE_STATE) != 0)
+        fault(kind, "it leaves another state than that of the letters that have come");
+    else if (kind->call == call_line_answer && refusal == PASDRONGEL_DONE && !tells_of(left, come, come_length))
+        fault(kind, "in parts something else is told of a line than of the whole");
+}
+
+static void hold_line(const struct kind *kind, const struct given *g, const struct left *left)
+{
+    static const uint8_t zeros[LINE_STATE];
+    int is_note = on_line(kind) && g->state_size == LINE_STATE && memcmp(g->state, note, LINE_STATE) == 0;
+    if (kind->call == call_line_check)
+        hold_check(kind, g, left);
+    if (kind->call == call_line_part)
+        hold_part(kind, g, left);
+    if (kind->call == call_line_begin && left->refusal == PASDRONGEL_DONE && memcmp(left->state, zeros, LINE_STATE) != 0)
+        fault(kind, "it begins a line of which something has come");
+    if (is_note && kind->call == call_line_part && note[0] == 0 && come_length <= LINE) {
+        memcpy(come + come_length, g->line, g->length * sizeof *come);
+        come_length += g->length;
+    }
+    if (is_note && !makes(kind))
+        hold_whole(kind, left);
+}
+
 /* Makes the call twice and holds it to all that is asked; what it leaves is in `left`. */
 static void hold(const struct kind *kind, const struct given *g, struct left *left)
 {
@@ -593,6 +825,7 @@ static void hold(const struct kind *kind, const struct given *g, struct left *le
     hold_number(kind, g, left);
     hold_setting(kind, g, left);
     hold_draft(kind, g, left);
+    hold_line(kind, g, left);
     make_call(kind, g, LOW, 0x5a, &again);
     hold_memory(kind, &again);
     if (!same(kind, g, left, &again))
@@ -691,6 +924,53 @@ static void some_letters(struct given *g)
         g->input[below((uint32_t)g->length)] = any_number();
 }
 
+/* A word of the list, now and then one of its longest, of which at times a letter is changed or added; or a run of at most so many
+ * letters, none a gap's. */
+static size_t some_word(uint32_t *word, uint32_t longest)
+{
+    static const uint32_t of_eight[] = {'n', 'g', 'h', 'u', 'y', 0xea, 'c', 'h'};
+    size_t i, count = 0;
+    if (one_in(3)) {
+        count = longest > PASDRONGEL_WORD_LETTERS && one_in(2) ? 62 + below(6) : 1 + below(longest);
+        for (i = 0; i < count; i++) {
+            word[i] = any_letter();
+            word[i] = separates(word[i]) ? 'a' : word[i];
+        }
+        return count;
+    }
+    calls++;
+    pasdrongel_word(below(5963), word, PASDRONGEL_LISTED_ROOM, &count);
+    if (one_in(16))
+        memcpy(word, of_eight, sizeof of_eight), count = 8;
+    if (count > 0 && one_in(4))
+        word[below((uint32_t)count)] = any_letter();
+    if (one_in(12))
+        word[count++] = any_letter();
+    return count;
+}
+
+/* The letters of a line, of which `before` have come: words, and gaps between most; now and then of long words, up to the limit
+ * of the line or over it, and with a letter that is foreign. */
+static size_t some_line(uint32_t *line, size_t before)
+{
+    static const char gaps[] = "      ..,!?;:\t\n\v\f\r";
+    size_t most = one_in(8) ? 0 : one_in(16) ? LINE - before + below(8) - 3 : one_in(4) ? below(300) : below(30), at = 0, fill;
+    uint32_t word[72], longest = one_in(4) ? 70 : 10, many = one_in(3) ? 200 : 4;
+    most = most > MOST_LINE ? 0 : most;
+    while (at < most) {
+        size_t i, length = some_word(word, longest);
+        for (i = 0; i < length && at < most; i++)
+            line[at++] = word[i];
+        for (fill = one_in(100) ? 0 : one_in(8) ? below(many) : 1; fill > 0 && at < most; fill--)
+            line[at++] = (uint32_t)gaps[below(sizeof gaps - 1)];
+        if (length >= 62 && one_in(4))
+            line[at - 1] = any_number(); /* foreign, mostly, and just where the word is too long */
+    }
+    if (at > 0 && one_in(8))
+        line[one_in(3) ? at - 1 : below((uint32_t)at)] = any_number();
+    return at;
+}
+
 /* ---- sessions */
 
 static uint8_t composition[STATE];
@@ -726,6 +1006,38 @@ static void some_state(struct given *g, uint32_t rarity)
             g->state[place] = (uint8_t)(31 + below(3)); /* the count, at its own edge */
         if (place == 3 && one_in(2))
             g->state[place] = (uint8_t)(1 + below(2)); /* and capitals */
+    }
+}
+
+/* The state of the session's line, or one of another length, or with a byte changed, mostly to a value at some edge; or one of
+ * numbers that stand at the edge of soundness. */
+static void some_line_state(struct given *g, uint32_t rarity)
+{
+    static const uint8_t edges[] = {0, 1, 2, 5, 6, 7, 8, 9, 16, 17, ' ', '.', 63, 64, 65, 'a', 0x80, 0xff};
+    size_t i, numbers[4], run = one_in(3) ? 60 + below(6) : one_in(2) ? below(10) : 0;
+    memset(g->state, 0, sizeof g->state);
+    memcpy(g->state, note, LINE_STATE);
+    g->state_size = LINE_STATE;
+    if (one_in(24))
+        g->state_size = 0;
+    else if (one_in(3 * rarity))
+        g->state_size = one_in(2) ? LINE_STATE - 1 + 2 * below(2) : below(MOST_STATE + 1);
+    if (one_in(rarity))
+        g->state[one_in(4) ? 10 + 2 * below(8) : below(LINE_STATE)] = one_in(2) ? edges[below(sizeof edges)] : (uint8_t)below(256);
+    if (!one_in(rarity))
+        return;
+    numbers[0] = one_in(2) ? LINE - 2 + below(4) : below(200);
+    numbers[1] = one_in(2) ? (numbers[0] - run) / 2 + below(3) - 1 : below(100);
+    numbers[2] = one_in(3) ? 0 : one_in(2) ? numbers[1] + below(2) : below(4);
+    numbers[3] = numbers[2] == 0 ? below(8) / 7 : one_in(2) ? numbers[0] - run - 2 * numbers[2] + below(3) - 1 : below(8);
+    g->state[0] = one_in(3) ? (uint8_t)(one_in(2) ? 6 : 1) : 0;
+    g->state[1] = (uint8_t)run;
+    for (i = 0; i < 4; i++)
+        g->state[2 + 2 * i] = (uint8_t)numbers[i], g->state[3 + 2 * i] = (uint8_t)(numbers[i] >> 8);
+    for (i = 0; i < 8; i++) {
+        uint32_t letter = i < run ? any_letter() : 0;
+        letter = one_in(64) ? ' ' : separates(letter) ? 'a' : letter;
+        g->state[10 + 2 * i] = (uint8_t)letter, g->state[11 + 2 * i] = (uint8_t)(letter >> 8);
     }
 }
 
@@ -819,7 +1131,11 @@ static void to_undo(struct given *g)
 static void prepare(const struct kind *kind, struct given *g)
 {
     memset(g, 0, sizeof *g);
-    some_state(g, kind->use == READ ? 3 : 12);
+    g->line = part;
+    if (on_line(kind))
+        some_line_state(g, kind->use == LINE_READ ? 4 : 8);
+    else
+        some_state(g, kind->use == READ ? 3 : 12);
     g->room = some_room();
     switch (kind->numbers) {
     case NO_NUMBER:
@@ -839,7 +1155,9 @@ static void prepare(const struct kind *kind, struct given *g)
     }
     g->b = one_in(4) ? any_number() : a_key();
     g->c = one_in(4) ? any_number() : a_key();
-    if (kind->call == call_read_draft)
+    if (reads_line(kind))
+        g->length = some_line(part, kind->call == call_line_part ? two(note + 2) : 0);
+    else if (kind->call == call_read_draft)
         some_draft(g);
     else if (kind->input == 1)
         some_bytes(g);
@@ -891,6 +1209,10 @@ static void session(void)
     calls++;
     if (PASDRONGEL_REFUSAL(pasdrongel_new(composition, STATE, below(2))) != PASDRONGEL_DONE)
         fault(kind_of(call_new), "there is no new composition");
+    calls++;
+    if (PASDRONGEL_REFUSAL(pasdrongel_line_begin(note, LINE_STATE)) != PASDRONGEL_DONE)
+        fault(kind_of(call_line_begin), "there is no new line");
+    come_length = 0;
     while (length-- > 0) {
         const struct kind *kind = some_kind();
         prepare(kind, &g);
@@ -898,8 +1220,12 @@ static void session(void)
         hold_text(kind, &g, &left);
         if (left.refusal == PASDRONGEL_DONE && kind->numbers == KEY && kind->output != 0)
             remember(g.a);
-        if (kind->use >= CHANGED && left.refusal == PASDRONGEL_DONE)
+        if (!on_line(kind) && changes(kind) && left.refusal == PASDRONGEL_DONE)
             memcpy(composition, left.state, STATE);
+        if (on_line(kind) && g.state_size == LINE_STATE && (makes(kind) || memcmp(g.state, note, LINE_STATE) == 0)) {
+            memcpy(note, left.state, LINE_STATE); /* a state that is not the session's is let go */
+            come_length = makes(kind) ? 0 : come_length;
+        }
     }
 }
 
@@ -944,11 +1270,13 @@ int main(void)
 {
     unsigned long seed = from_environment("SEED", 1), sessions = SESSIONS * from_environment("SCALE", 1);
     random_state = (seed + 1) * 0x9e3779b97f4a7c15u;
-    lent_open(&the_state);
-    lent_open(&the_input);
-    lent_open(&the_output);
-    lent_open(&the_first);
-    lent_open(&the_second);
+    lent_open(&the_state, 1);
+    lent_open(&the_input, 1);
+    lent_open(&the_output, 1);
+    lent_open(&the_first, 1);
+    lent_open(&the_second, 1);
+    lent_open(&the_third, 1);
+    lent_open(&the_line, 5);
     while (sessions-- > 0 && faults < MOST_SHOWN)
         session();
     conclude();

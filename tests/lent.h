@@ -22,14 +22,15 @@ struct lent {
     size_t size;
 };
 
-static void lent_open(struct lent *lent)
+/* Opens so many pages, between the two closed ones. */
+static void lent_open(struct lent *lent, size_t pages)
 {
-    size_t page = (size_t)sysconf(_SC_PAGESIZE);
-    unsigned char *all = mmap(NULL, 3 * page, PROT_NONE, MAP_PRIVATE | MAP_ANONYMOUS, -1, 0);
+    size_t page = (size_t)sysconf(_SC_PAGESIZE), open = pages * page;
+    unsigned char *all = mmap(NULL, open + 2 * page, PROT_NONE, MAP_PRIVATE | MAP_ANONYMOUS, -1, 0);
     lent->space = all + page;
-    lent->space_size = page;
-    lent->before = malloc(page);
-    if (all == MAP_FAILED || lent->before == NULL || mprotect(lent->space, page, PROT_READ | PROT_WRITE) != 0) {
+    lent->space_size = open;
+    lent->before = malloc(open);
+    if (all == MAP_FAILED || lent->before == NULL || mprotect(lent->space, open, PROT_READ | PROT_WRITE) != 0) {
         perror("the memory to lend");
         exit(2);
     }

@@ -579,11 +579,114 @@ static int replay_session(void)
         && memcmp(session.bytes, session.before, sizeof session.bytes) == 0;
 }
 
+/* ---- note lines */
+
+/* The letters of a line, and some that are too many. */
+static uint32_t note[PASDRONGEL_LINE_LETTERS + MOST];
+static size_t note_length;
+
+/* `[ an ] times 2048 [ a U+0020 ]`: letters one after another, some of them so many times. Returns the word after them. */
+static const char *read_note(void)
+{
+    static struct list letters;
+    const char *word;
+    note_length = 0;
+    while (strcmp(word = next_word(), "[") == 0 || strcmp(word, "times") == 0) {
+        unsigned long times = 1;
+        if (word[0] == 't') {
+            times = read_number();
+            expect("[");
+        }
+        read_bracketed(&letters);
+        if (times > sizeof note / sizeof *note || times * letters.length > sizeof note / sizeof *note - note_length)
+            bad_line("these are too many letters of a line");
+        for (; times > 0; times--) {
+            memcpy(note + note_length, letters.items, letters.length * sizeof *note);
+            note_length += letters.length;
+        }
+    }
+    return word;
+}
+
+/* What a call on a line left: its refusal, and the three numbers. */
+struct told {
+    uint32_t refusal;
+    size_t words, no, first;
+};
+
+/* `3 2 3`, `done` or `refused 6`: is it the answer? Where nothing is told, the numbers keep their values. */
+static int is_told(const struct told *told)
+{
+    const char *answer = next_word();
+    if (strcmp(answer, "refused") == 0)
+        return told->refusal == read_number() && told->words == GUARD && told->no == GUARD && told->first == GUARD;
+    if (strcmp(answer, "done") == 0)
+        return told->refusal == 0 && told->words == GUARD && told->no == GUARD && told->first == GUARD;
+    return told->refusal == 0 && told->words == strtoul(answer, NULL, 10) && told->no == read_number() && told->first == read_number();
+}
+
+/* `line_check [ an U+0020 za ] = 2 1 3`: the words, those judged no, and where the first of these begins. */
+static int replay_line_check(void)
+{
+    struct told told = {0, GUARD, GUARD, GUARD};
+    if (strcmp(read_note(), "=") != 0)
+        bad_line("this line has no answer");
+    told.refusal = PASDRONGEL_REFUSAL(pasdrongel_line_check(note, note_length, &told.words, &told.no, &told.first));
+    return is_told(&told);
+}
+
+/* `line STEPS = ANSWER / BYTES`: the answer of the last call, and the state that it leaves. */
+static int replay_line(void)
+{
+    static uint8_t bytes[MOST + 2 * MARGIN], expected[MOST + 2 * MARGIN];
+    uint8_t *state = bytes + MARGIN;
+    size_t i, length = PASDRONGEL_LINE_STATE_BYTES;
+    struct told told = {0, GUARD, GUARD, GUARD};
+    struct list left;
+    const char *word = next_word();
+    memset(bytes, GUARD_BYTE, sizeof bytes);
+    while (strcmp(word, "=") != 0) {
+        const char *step = word;
+        told.words = told.no = told.first = GUARD;
+        if (strcmp(step, "part") == 0) {
+            word = read_note();
+            told.refusal = PASDRONGEL_REFUSAL(pasdrongel_line_part(state, length, note, note_length));
+            continue;
+        }
+        if (strcmp(step, "begin") == 0) {
+            told.refusal = PASDRONGEL_REFUSAL(pasdrongel_line_begin(state, length));
+        } else if (strcmp(step, "answer") == 0) {
+            told.refusal = PASDRONGEL_REFUSAL(pasdrongel_line_answer(state, length, &told.words, &told.no, &told.first));
+        } else if (strcmp(step, "poke") == 0) {
+            size_t place = read_number();
+            state[place] = (uint8_t)read_number();
+        } else if (strcmp(step, "length") == 0) {
+            size_t other = read_number(), shorter = other < length ? other : length;
+            memset(state + shorter, 0, other - shorter);
+            memset(state + other, GUARD_BYTE, MOST + MARGIN - other);
+            length = other;
+        } else {
+            bad_line("this step is not known");
+        }
+        word = next_word();
+    }
+    if (!is_told(&told))
+        return 0;
+    expect("/");
+    read_list(&left, NULL);
+    memset(expected, GUARD_BYTE, sizeof expected);
+    for (i = 0; i < left.length; i++)
+        expected[MARGIN + i] = (uint8_t)left.items[i];
+    return left.length == length && memcmp(bytes, expected, sizeof bytes) == 0;
+}
+
 static const struct {
     const char *name;
     int (*replay)(void);
 } spelled_calls[] = {
     {"session", replay_session},
+    {"line", replay_line},
+    {"line_check", replay_line_check},
     {"is_tone_key", replay_method},
     {"is_horn_key", replay_method},
     {"mark_for", replay_method},

@@ -1,9 +1,11 @@
 -- Demand 1, "A refusal alters neither the composition nor any lent buffer": said of each call's own contract, as Rattle reads
 -- it out of src/. Wherever the number returned is not 0, every lent place ends as it began, count and yes places too.
--- `pasdrongel_composition_bytes` alone has no law here: it is lent nothing, and returns no refusal.
+-- `pasdrongel_composition_bytes` alone has no law here: it is lent nothing, and returns no refusal. `pasdrongel_line_part` is "the one
+-- exception to demand 1": its state records refusals 1 and 6, and its law is of refusal 10.
 use Prim.Native.Nat.{ℕ}
-use mathlib.Core.Path.{_≡_, refl, _∙_}
+use mathlib.Core.Path.{_≡_, refl, sym, _∙_}
 use mathlib.Core.List.{List}
+use native.Mathlib.Omega.{arith}
 use lib.ListN.{length}
 use mir.Syntax.{w32}
 use contract.Lifetimes.{Lfts}
@@ -11,22 +13,30 @@ use denote.Ref.{RefT, at-last}
 use denote.Triple.Clauses.{Lasts, AtExit, atExit}
 use borrow.Fn.Kinds.{PK, Out, Dens, endedOf, rNum}
 use Rattle.p0_refusals.specs.Answers.{Outcome, refusalOf, answer, output}
+use Rattle.p0_refusals.specs.Refusals.{numberOf}
 use Rattle.p0_refusals.specs.declared.Answer.{Answer}
+use Rattle.p0_refusals.specs.declared.Refusal.the-variants.{Unsound}
 use Rattle.p3_cells.specs.declared.After.{After}
+use Rattle.p4_note_line.specs.Line.{lineAnswer, checkedNumber}
+use Rattle.p4_note_line.specs.declared.Checked.{Checked}
 use Rattle.p4_spelling.specs.Answers.{cutAnswer, verdictAnswer}
 use Rattle.p5_utf8_text.specs.Read.{reading}
 use Rattle.p5_utf8_text.specs.Write.{writing}
 use Rattle.p6_composition.specs.Calls.{answerOn, bytesOn, keyOn, resetOn, literalOn, removalOn, undoOn, methodOn, modeOn, capitalsOn}
 use Rattle.p6_composition.specs.Calls.{textOn}
 use Rattle.p6_draft_calls.specs.Calls.{bytesOutcome}
+use Rattle.p6_note_bytes.specs.Calls.{lineAnswerOn}
 use Rattle.p6_host.specs.Counts.{countOut}
+use Rattle.p6_host.specs.LineCalls.{wordsOut, noOut, firstOut}
 use Rattle.p6_host.proofs.Refused.{letter-kept, tone-kept, method-key-kept, mark-kept, sound-kept, onset-kept, vowels-kept}
 use Rattle.p6_host.proofs.Refused.{verdict-kept, count-kept, behaviour-kept, output-kept, bytes-kept, new-kept, text-out-kept}
-use Rattle.p6_host.proofs.Refused.{removal-out-kept, key-out-kept, reading-kept}
+use Rattle.p6_host.proofs.Refused.{removal-out-kept, key-out-kept, reading-kept, begin-kept, part-kept, words-kept, no-kept}
+use Rattle.p6_host.proofs.Refused.{first-kept}
 use Rattle.p6_host.proofs.composition as composition
 use Rattle.p6_host.proofs.drafts as drafts
 use Rattle.p6_host.proofs.input_method as method
 use Rattle.p6_host.proofs.letters as letters
+use Rattle.p6_host.proofs.lines as lines
 use Rattle.p6_host.proofs.lister as lister
 use Rattle.p6_host.proofs.speller as speller
 use Rattle.p6_host.proofs.utf8 as utf8
@@ -41,6 +51,12 @@ module _ {n : ℕ} (ps : List (PK n)) (Learnt : Out n ps (rNum w32))
       (κs : Lfts n) (a : Dens κs ps) (z : ℕ) (w : Lasts (endedOf n ps (rNum w32)) κs a)
       → Learnt κs a z (atExit (endedOf n ps (rNum w32)) κs a w) → (z ≡ 0 → ⊥)
       → atExit (endedOf n ps (rNum w32)) κs a w ≡ asLent κs a
+
+  -- the same of a refusal's number alone
+  abbrev pub KeepsAt : ℕ → Type 0
+  KeepsAt m =
+      (κs : Lfts n) (a : Dens κs ps) (z : ℕ) (w : Lasts (endedOf n ps (rNum w32)) κs a)
+      → Learnt κs a z (atExit (endedOf n ps (rNum w32)) κs a w) → z ≡ m → atExit (endedOf n ps (rNum w32)) κs a w ≡ asLent κs a
 
 -- ---- the arguments one after another, where the number is m: x is not written, the place p ends as u
 beside : {A B : Type 0} (x : A) {y y′ : B} → y ≡ y′ → _≡_ {A = A × B} (x, y) (x, y′)
@@ -126,6 +142,22 @@ cut-keeps κs a z w q h =
     let vowels = lent (a .1 .1 .0) (vowels-kept g _) (q .0, q .1 .1) h refl in
     beside (a .0) (lent (a .1 .0) (onset-kept g _) (q .0, q .1 .0) h vowels)
 
+-- ---- three: what is told of a line
+module _ {A : Type 0} (x : A) (n m f : RefT ℕ) (g : Checked) {z u v w : ℕ}
+    (q : (z ≡ checkedNumber g) × ((u ≡ wordsOut g (n .now)) × ((v ≡ noOut g (m .now)) × (w ≡ firstOut g (f .now))))) (h : z ≡ 0 → ⊥) where
+  lent-counts : _≡_ {A = A × (RefT ℕ × (RefT ℕ × (RefT ℕ × Unit {0})))} (x, (at-last n u, (at-last m v, (at-last f w, tt))))
+      (x, (n, (m, (f, tt))))
+  lent-counts =
+      let first = lent f (first-kept (f .now) g) (q .0, q .1 .1 .1) h refl in
+      let no = lent m (no-kept (m .now) g) (q .0, q .1 .1 .0) h first in
+      beside x (lent n (words-kept (n .now) g) (q .0, q .1 .0) h no)
+
+pub line-check-keeps : Keeps lines.pasdrongel_line_check.Kinds.ps lines.pasdrongel_line_check.Reads.Learnt (λ κs a. a)
+line-check-keeps κs a z w q h = lent-counts (a .0) (a .1 .0) (a .1 .1 .0) (a .1 .1 .1 .0) (lineAnswer (a .0 .now)) q h
+
+pub line-answer-keeps : Keeps lines.pasdrongel_line_answer.Kinds.ps lines.pasdrongel_line_answer.Reads.Learnt (λ κs a. a)
+line-answer-keeps κs a z w q h = lent-counts (a .0) (a .1 .0) (a .1 .1 .0) (a .1 .1 .1 .0) (lineAnswerOn (a .0 .now)) q h
+
 -- ---- an output and a count: g is the answer, and the output ends as u
 module _ (o : RefT (List ℕ)) (c : RefT ℕ) (g : Answer) {z v : ℕ} {w u : List ℕ} (k : (refusalOf g ≡ 0 → ⊥) → u ≡ o .now)
     (q : (z ≡ refusalOf g) × ((w ≡ u) × (v ≡ countOut g (c .now)))) (h : z ≡ 0 → ⊥) where
@@ -167,6 +199,14 @@ module _ {A : Type 0} (p : RefT (List ℕ)) (x : A) (k : After) {z : ℕ} {w : L
 
 pub new-keeps : Keeps composition.pasdrongel_new.Kinds.ps composition.pasdrongel_new.Reads.Learnt (λ κs a. a)
 new-keeps κs a z w q h = lent (a .0) (new-kept (a .0 .now) (a .1 .0)) q h refl
+
+pub line-begin-keeps : Keeps lines.pasdrongel_line_begin.Kinds.ps lines.pasdrongel_line_begin.Reads.Learnt (λ κs a. a)
+line-begin-keeps κs a z w q h = lent (a .0) (begin-kept (a .0 .now)) q h refl
+
+pub line-part-keeps : KeepsAt lines.pasdrongel_line_part.Kinds.ps lines.pasdrongel_line_part.Reads.Learnt (λ κs a. a) (numberOf Unsound)
+line-part-keeps κs a z w q h =
+    let kept = part-kept (a .0 .now) (a .1 .0 .now) (sym (q .0) ∙ h) .1 in
+    lent (a .0) {m = z} (λ _. kept) (refl, q .1) (λ e. absurd (omega (arith, h, e))) refl
 
 pub read-draft-keeps : Keeps drafts.pasdrongel_read_draft.Kinds.ps drafts.pasdrongel_read_draft.Reads.Learnt (λ κs a. a)
 read-draft-keeps κs a z w q h = beside (a .0) (lent (a .1 .0) (reading-kept (q .0) (a .1 .0 .now)) (q .2, q .3) h refl)

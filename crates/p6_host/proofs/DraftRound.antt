@@ -9,11 +9,7 @@ use native.Mathlib.Omega.{arith}
 use lib.Dec.{ltb, eqb}
 use lib.ListN.{length, take, drop}
 use lib.Seq.{take-append-seam}
-use mir.Syntax.{w32}
 use borrow.Author.Tests.{eq-eqb, ne-eqb, le-ltb}
-use contract.Lifetimes.{Lfts}
-use denote.Triple.Clauses.{Lasts, atExit}
-use borrow.Fn.Kinds.{PK, Out, Dens, endedOf, rNum}
 use Rattle.p0_choice.specs.Choice.{pick}
 use Rattle.p0_refusals.specs.Answers.{writes, refuses, refusalOf, content, answer, unless, output}
 use Rattle.p0_refusals.specs.declared.Answer.{Answer}
@@ -31,17 +27,9 @@ use Rattle.p6_draft.proofs.Exact.{draft-read, one-draft}
 use Rattle.p6_draft_calls.specs.Calls.{bytesOutcome, readAnswer, readLeaves, readTo, readOn, readBytes}
 use Rattle.p6_draft_calls.proofs.Writing.{bytes-is}
 use Rattle.p6_host.specs.Counts.{countOut}
+use Rattle.p6_host.proofs.Made.{Made}
 use Rattle.p6_host.proofs.drafts.pasdrongel_write_draft as write
 use Rattle.p6_host.proofs.drafts.pasdrongel_read_draft as read
-
--- a call that was made: what it was handed, the number returned, what then stands in the lent places, and what its contract tells of these
-module _ {n : ℕ} (ps : List (PK n)) (Learnt : Out n ps (rNum w32)) where
-  pub record Made : Type 0 where
-    pub κs : Lfts n
-    pub handed : Dens κs ps
-    pub number : ℕ
-    pub left : Lasts (endedOf n ps (rNum w32)) κs handed
-    pub told : Learnt κs handed number (atExit (endedOf n ps (rNum w32)) κs handed left)
 
 abbrev Written : Type 0
 Written = Made write.Kinds.ps write.Reads.Learnt

@@ -13,4 +13,6 @@ header = record {
   listedRoom = refl;
   readRoom = refl;
   writeRoom = refl;
+  lineLetters = refl;
+  lineStateBytes = refl;
 }

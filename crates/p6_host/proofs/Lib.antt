@@ -1,6 +1,7 @@
 pub mod Demand1
 pub mod Header
 pub mod LetterCalls
+pub mod LineCalls
 pub mod DraftCalls
 pub mod ListerCalls
 pub mod MethodCalls
@@ -8,4 +9,6 @@ pub mod Only
 pub mod Refused
 pub mod SpellerCalls
 pub mod Told
+pub mod Made
 pub mod DraftRound
+pub mod LineParts

@@ -41,6 +41,10 @@ use Rattle.p6_host.proofs.letters.pasdrongel_tone_on as tone-on
 use Rattle.p6_host.proofs.letters.pasdrongel_tone_off as tone-off
 use Rattle.p6_host.proofs.letters.pasdrongel_is_composer_vowel as is-composer-vowel
 use Rattle.p6_host.proofs.letters.pasdrongel_is_speller_vowel as is-speller-vowel
+use Rattle.p6_host.proofs.lines.pasdrongel_line_check as line-check
+use Rattle.p6_host.proofs.lines.pasdrongel_line_begin as line-begin
+use Rattle.p6_host.proofs.lines.pasdrongel_line_part as line-part
+use Rattle.p6_host.proofs.lines.pasdrongel_line_answer as line-answer
 use Rattle.p6_host.proofs.lister.pasdrongel_total as total
 use Rattle.p6_host.proofs.lister.pasdrongel_word as word
 use Rattle.p6_host.proofs.lister.pasdrongel_next_word as next-word
@@ -153,6 +157,20 @@ write-utf8-only κs a = (tt, two-lent)
 pub write-draft-only : OneAnswer write-draft.Kinds.ps write-draft.Kinds.r write-draft.Reads.Asked write-draft.Reads.Learnt
 write-draft-only κs a = (tt, two-lent)
 
+-- ---- three places
+module _ {m t u v : ℕ} (z z′ : ℕ) (w w′ : Unit {0} × (ℕ × (ℕ × (ℕ × Unit {0})))) where
+  three-lent : (z ≡ m) × ((w .1 .0 ≡ t) × ((w .1 .1 .0 ≡ u) × (w .1 .1 .1 .0 ≡ v)))
+      → (z′ ≡ m) × ((w′ .1 .0 ≡ t) × ((w′ .1 .1 .0 ≡ u) × (w′ .1 .1 .1 .0 ≡ v))) → (z ≡ z′) × (w ≡ w′)
+  three-lent q q′ =
+      let first = agree (q .1 .1 .1) (q′ .1 .1 .1) in
+      (agree (q .0) (q′ .0), λ i. (tt, (agree (q .1 .0) (q′ .1 .0) i, (agree (q .1 .1 .0) (q′ .1 .1 .0) i, (first i, tt)))))
+
+pub line-check-only : OneAnswer line-check.Kinds.ps line-check.Kinds.r line-check.Reads.Asked line-check.Reads.Learnt
+line-check-only κs a = (tt, three-lent)
+
+pub line-answer-only : OneAnswer line-answer.Kinds.ps line-answer.Kinds.r line-answer.Reads.Asked line-answer.Reads.Learnt
+line-answer-only κs a = (tt, three-lent)
+
 -- a draft that is read: what its bytes are a draft of is one thing
 module _ (b s : List ℕ) where
   abbrev ToldDraft : ℕ → Unit {0} × (List ℕ × Unit {0}) → Type 0
@@ -208,8 +226,18 @@ set-mode-only κs a = (tt, bytes-lent)
 pub set-capitals-only : OneAnswer set-capitals.Kinds.ps set-capitals.Kinds.r set-capitals.Reads.Asked set-capitals.Reads.Learnt
 set-capitals-only κs a = (tt, bytes-lent)
 
+module _ {m : ℕ} {b : List ℕ} (z z′ : ℕ) (w w′ : List ℕ × Unit {0}) where
+  bytes-alone : (z ≡ m) × (w .0 ≡ b) → (z′ ≡ m) × (w′ .0 ≡ b) → (z ≡ z′) × (w ≡ w′)
+  bytes-alone q q′ = (agree (q .0) (q′ .0), λ i. (agree (q .1) (q′ .1) i, tt))
+
 pub reset-only : OneAnswer reset.Kinds.ps reset.Kinds.r reset.Reads.Asked reset.Reads.Learnt
-reset-only κs a = (tt, λ z z′ w w′ q q′. (agree (q .0) (q′ .0), λ i. (agree (q .1) (q′ .1) i, tt)))
+reset-only κs a = (tt, bytes-alone)
+
+pub line-begin-only : OneAnswer line-begin.Kinds.ps line-begin.Kinds.r line-begin.Reads.Asked line-begin.Reads.Learnt
+line-begin-only κs a = (tt, bytes-alone)
+
+pub line-part-only : OneAnswer line-part.Kinds.ps line-part.Kinds.r line-part.Reads.Asked line-part.Reads.Learnt
+line-part-only κs a = (tt, bytes-lent)
 
 -- ---- bytes and other places
 pub undo-only : OneAnswer undo.Kinds.ps undo.Kinds.r undo.Reads.Asked undo.Reads.Learnt

@@ -3,7 +3,8 @@ use Prim.Native.Nat.{ℕ}
 use mathlib.Core.Path.{_≡_, refl}
 use mathlib.Core.Bool.{Bool, true, false}
 use mathlib.Core.List.{List}
-use lib.Dec.{leb}
+use native.Mathlib.Omega.{arith}
+use lib.Dec.{eqb, leb}
 use lib.ListN.{length}
 use Rattle.p0_choice.specs.Choice.{pick}
 use Rattle.p0_refusals.specs.Refusals.{numberOf}
@@ -16,6 +17,14 @@ use Rattle.p3_calls.specs.Output.{textOutcome, removalOutcome, removed}
 use Rattle.p3_cells.specs.Leaving.{leaving}
 use Rattle.p3_cells.specs.declared.After.{After}
 use Rattle.p3_key.specs.Process.{keyOutcome, keyed}
+use Rattle.p4_note_line.specs.Line.{checkedNumber}
+use Rattle.p4_note_line.specs.declared.Checked.{Checked}
+use Rattle.p4_note_line.specs.declared.Checked.the-variants as Checks
+use Rattle.p4_note_parts.specs.Parts.{partTaken, partAfter, standingAnswer}
+use Rattle.p4_note_parts.specs.State.{begun}
+use Rattle.p4_note_parts.specs.declared.Standing.{Standing}
+use Rattle.p4_note_parts.specs.declared.Standing.the-variants as Standings
+use Rattle.p4_note_parts.proofs.Cutting.{sound-answer}
 use Rattle.p4_spelling.specs.Answers.{cutNumber, verdictNumber}
 use Rattle.p4_spelling.specs.declared.Cut.{Cut}
 use Rattle.p4_spelling.specs.declared.Cut.the-variants as Cuts
@@ -25,8 +34,12 @@ use Rattle.p6_bytes.specs.Bytes.{bytesOf, bytesSound, compositionOf}
 use Rattle.p6_composition.specs.Calls.{answerOn, bytesOn, outOn, keyOn, removalOn, textOn, newOn, newBytes}
 use Rattle.p6_draft.specs.Draft.{Reading}
 use Rattle.p6_draft_calls.specs.Calls.{readOn, readBytes}
+use Rattle.p6_note_bytes.specs.Bytes.{lineSize, lineBytes, lineOf, lineBytesSound}
+use Rattle.p6_note_bytes.specs.Calls.{lineBeginOn, lineBeginBytes, linePartOn, linePartBytes}
+use Rattle.p6_note_bytes.proofs.Kept.{bytes-line}
 use Rattle.p6_host.specs.CompositionCalls.{soundCode, soundOut}
 use Rattle.p6_host.specs.Counts.{countOut, behaviourOut}
+use Rattle.p6_host.specs.LineCalls.{wordsOut, noOut, firstOut}
 use Rattle.p6_host.specs.LetterCalls.{letterCode, letterOut, toneCode, toneOut}
 use Rattle.p6_host.specs.MethodCalls.{keyCode, keyOut, markCode, markOut}
 use Rattle.p6_host.specs.SpellerCalls.{onsetOut, vowelsOut, verdictOut}
@@ -70,6 +83,43 @@ pub verdict-kept : (g : Verdict) (old : ℕ) → (verdictNumber g ≡ 0 → ⊥)
 verdict-kept Verdicts.Yes old h = absurd (h refl)
 verdict-kept Verdicts.No old h = absurd (h refl)
 verdict-kept (Verdicts.Refused r) old h = refl
+
+-- ---- a line, and its state's bytes
+pub begin-kept : (b : List ℕ) → (refusalOf (lineBeginOn b) ≡ 0 → ⊥) → lineBeginBytes b ≡ b
+unfolding lineBeginOn lineBeginBytes
+begin-kept b h = go (eqb (length b) lineSize) h
+  where
+    go : (t : Bool) → (refusalOf (pick t (Done 0) (Refused Unsound)) ≡ 0 → ⊥) → pick t (lineBytes begun) b ≡ b
+    go true k = absurd (k refl)
+    go false k = refl
+
+-- "refusal 10 leaves the state too as it was", and is given for a state that is not sound alone
+pub part-kept : (b xs : List ℕ) → refusalOf (linePartOn b xs) ≡ numberOf Unsound → (lineBytesSound b ≡ false) × (linePartBytes b xs ≡ b)
+unfolding linePartOn linePartBytes
+part-kept b xs h = go (lineBytesSound b) refl h
+  where
+    never : (t : Standing) → refusalOf (standingAnswer t) ≡ numberOf Unsound → ⊥
+    never Standings.Going k = absurd (omega (arith, k))
+    never Standings.Foreign k = absurd (omega (arith, k))
+    never Standings.Long k = absurd (omega (arith, k))
+
+    go : (t : Bool) → lineBytesSound b ≡ t → refusalOf (pick t (partAfter (lineOf b) xs .answer) (Refused Unsound)) ≡ numberOf Unsound
+        → (t ≡ false) × (pick t (lineBytes (partAfter (lineOf b) xs .line)) b ≡ b)
+    go true e k = absurd (never (partTaken (lineOf b) xs .standing) (rw (sound-answer (lineOf b) (bytes-line b e) xs) at k))
+    go false e k = (refl, refl)
+
+module _ (old : ℕ) where
+  pub words-kept : (g : Checked) → (checkedNumber g ≡ 0 → ⊥) → wordsOut g old ≡ old
+  words-kept (Checks.Counted n) h = absurd (h refl)
+  words-kept (Checks.Refused r) h = refl
+
+  pub no-kept : (g : Checked) → (checkedNumber g ≡ 0 → ⊥) → noOut g old ≡ old
+  no-kept (Checks.Counted n) h = absurd (h refl)
+  no-kept (Checks.Refused r) h = refl
+
+  pub first-kept : (g : Checked) → (checkedNumber g ≡ 0 → ⊥) → firstOut g old ≡ old
+  first-kept (Checks.Counted n) h = absurd (h refl)
+  first-kept (Checks.Refused r) h = refl
 
 -- ---- what every other call answers
 unless-kept : {A : Type 0} (g : Answer) (old new : A) → (refusalOf g ≡ 0 → ⊥) → unless g old new ≡ old

@@ -6,6 +6,7 @@ pub mod composition;
 pub mod drafts;
 pub mod input_method;
 pub mod letters;
+pub mod lines;
 pub mod lister;
 pub mod speller;
 pub mod utf8;

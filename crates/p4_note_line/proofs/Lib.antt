@@ -1,0 +1,9 @@
+pub mod Scans
+pub mod Faults
+pub mod Taking
+pub mod Words
+pub mod Runs
+pub mod Places
+pub mod Tally
+pub mod Answers
+pub mod Only

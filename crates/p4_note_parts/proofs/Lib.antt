@@ -1,0 +1,11 @@
+pub mod Taking
+pub mod Soundness
+pub mod Tests
+pub mod Words
+pub mod Standings
+pub mod Steps
+pub mod Tally
+pub mod Whole
+pub mod Cutting
+pub mod Reached
+pub mod Only
