@@ -1,6 +1,7 @@
 /* Random calls of the header, in sessions on one composition and one note line, with guards around everything that is lent.
  *
  *   SEED=7 SCALE=20 fuzz      other calls, and twenty times as many; the last line is `N calls, F faults`
+ *   FAULTS=1 fuzz             ends with the session that finds a fault, and not with the twentieth fault
  *
  * Of each call it is asked, whatever it is given:
  * - It returns 0 or one of its own refusals, and by 10 exactly where the bytes are no sound composition, or no sound state of a
@@ -1269,6 +1270,7 @@ static void conclude(void)
 int main(void)
 {
     unsigned long seed = from_environment("SEED", 1), sessions = SESSIONS * from_environment("SCALE", 1);
+    unsigned long enough = from_environment("FAULTS", MOST_SHOWN);
     random_state = (seed + 1) * 0x9e3779b97f4a7c15u;
     lent_open(&the_state, 1);
     lent_open(&the_input, 1);
@@ -1277,7 +1279,7 @@ int main(void)
     lent_open(&the_second, 1);
     lent_open(&the_third, 1);
     lent_open(&the_line, 5);
-    while (sessions-- > 0 && faults < MOST_SHOWN)
+    while (sessions-- > 0 && faults < enough)
         session();
     conclude();
     printf("seed %lu\n%lu calls, %lu faults\n", seed, calls, faults);
