@@ -8,7 +8,6 @@ use native.Mathlib.Omega.{arith}
 use lib.Dec.{ltb}
 use lib.ListN.{length, take, drop}
 use lib.Seq.{take-append-seam}
-use borrow.Author.Tests.{lt-ltb}
 use Rattle.p0_choice.specs.Choice.{pick}
 use Rattle.p0_refusals.specs.Answers.{writes, refuses, refusalOf, content, answer, output}
 use Rattle.p0_refusals.specs.Limits.{letterLimit}
@@ -20,7 +19,7 @@ use Rattle.p3_cells.specs.Cells.{used}
 use Rattle.p3_cells.specs.Text.{textOf}
 use Rattle.p3_cells.proofs.Holding.{used-length}
 use Rattle.p3_cells.proofs.Text.{text-length}
-use Rattle.p4_spelling.specs.Answers.{permitted, verdictAnswer}
+use Rattle.p4_spelling.proofs.Answers.{verdict-long}
 use Rattle.p6_bytes.specs.Bytes.{compositionOf, bytesSound}
 use Rattle.p6_bytes.proofs.Sound.{sound-composition}
 use Rattle.p6_composition.specs.Calls.{textOn, outOn}
@@ -75,8 +74,7 @@ module _ (b o out : List ℕ) (z n old : ℕ) (d : z ≡ 0) where
 -- ---- the verdict
 -- "Words .. at most 64": of a longer one it is 6
 pub long-word-six : (v : WasJudged) → letterLimit < length (wordJudged v) → v .number ≡ 6
-unfolding verdictAnswer permitted
-long-word-six v h = rw (lt-ltb letterLimit (length (wordJudged v)) h) at (v .told .0)
+long-word-six v h = rw (verdict-long (wordJudged v) h) at (v .told .0)
 
 -- "the verdict of a longer text is refusal 6"
 pub long-text-six : (t : WasShown) → t .number ≡ 0 → letterLimit < compositionOf (bytesShown t) .count
