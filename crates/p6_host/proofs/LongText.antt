@@ -9,7 +9,7 @@ use lib.Dec.{ltb}
 use lib.ListN.{length, take, drop}
 use lib.Seq.{take-append-seam}
 use Rattle.p0_choice.specs.Choice.{pick}
-use Rattle.p0_refusals.specs.Answers.{writes, refuses, refusalOf, content, answer, output}
+use Rattle.p0_refusals.specs.Answers.{writes, refusalOf, content, answer, output}
 use Rattle.p0_refusals.specs.Limits.{letterLimit}
 use Rattle.p0_refusals.specs.declared.Answer.{Answer}
 use Rattle.p0_refusals.specs.declared.Answer.the-variants.{Done, Refused}
