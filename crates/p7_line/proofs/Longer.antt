@@ -1,4 +1,4 @@
--- Request 2026-05, "Longer notes", as `wordline` prints it: cells are many enough for a text that no verdict is given on.
+-- Request 2026-05, "Longer notes", in what `wordline` prints: a composition may have more cells than a word may have letters.
 use Prim.Native.Nat.{ℕ, _<_}
 use mathlib.Core.Path.{_≡_, refl, ap, _∙_}
 use mathlib.Core.Bool.{Bool, true, false}

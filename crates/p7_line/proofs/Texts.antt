@@ -100,5 +100,6 @@ module _ (text : List ℕ) (h : letterLimit < length text) where
   pub long-end : (at r : ℕ) → r ≡ at + length (refusedLine Long) → r ≡ at + length (textLine text)
   long-end at r q = rw long-line q
 
-  pub long-out : (at r : ℕ) (o out : List ℕ) → out ≡ take at o ++ (refusedLine Long ++ drop r o) → out ≡ take at o ++ (textLine text ++ drop r o)
+  pub long-out : (at r : ℕ) (o out : List ℕ) → out ≡ take at o ++ (refusedLine Long ++ drop r o)
+      → out ≡ take at o ++ (textLine text ++ drop r o)
   long-out at r o out q = rw long-line q

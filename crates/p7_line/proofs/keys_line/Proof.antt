@@ -64,8 +64,8 @@ text-requires c κs =
     let new = loop .before in
     let start = new .before .before .before in
     let l = loop .loop in
-    let a = typed-letters (start .args .m) (start .args .keys .now) (new .new .result) (new .new .ensures) (l .c) (l .text) (l .count) (l .i)
-    (l .inv .4) in
+    let a = typed-letters (start .args .m) (start .args .keys .now) (new .new .result) (new .new .ensures) (l .c) (l .text) (l .count)
+    (l .i) (l .inv .4) in
     (rw (c .before .first .ensures) a, search needs)
 
 returns-2 : tie.Need-returns-2 Inv-loop μ-loop
