@@ -38,7 +38,7 @@ extern "C" {
  * The one is pasdrongel_line_check: it goes one call deeper for each word and the gap after it, and a line of 4,096 letters has
  * at most 2,048 words. So pasdrongel_line_check takes at most 99,328 bytes of stack. A host with a small stack hands the
  * line over in parts (pasdrongel_line_part), which need none of that. */
-#define PASDRONGEL_STACK_BYTES 640
+#define PASDRONGEL_STACK_BYTES 768
 
 /* Memory. A call is lent buffers, each a pointer and a length, and places for one number, each a pointer. It reads and
  * writes nothing else, and keeps no pointer. The rest is for the host to see to: no call can test it.
