@@ -517,7 +517,7 @@ impl Composer<'_> {
     /// they are turned off and on between the calls. One in twenty is of a host that does not empty the cells, up to where they
     /// are all used, and on.
     fn sessions(&mut self) {
-        self.begin("every call: random sessions of up to 130 calls, and of 400, text, method, mode, capitals and count after each");
+        self.begin("every call: random sessions of up to 130 calls, and of 300, text, method, mode, capitals and count after each");
         let kinds = if self.capitals { 220 } else { 200 };
         let mut full = 0;
         for turn in self.run.times(15_000) {
@@ -525,7 +525,7 @@ impl Composer<'_> {
             let mut state = self.appended(method, "");
             let mut raw: Vec<u32> = Vec::new();
             let (goes_on, mut refused) = (turn % 20 == 0, false);
-            let calls = if goes_on { 400 } else { 1 + self.run.random().below(130) };
+            let calls = if goes_on { 300 } else { 1 + self.run.random().below(130) };
             for _ in 0..calls {
                 let count = usize::from(state[2]);
                 let (kind, letter) = (self.run.random().below(kinds), random_key(self.run.random()));
@@ -537,7 +537,7 @@ impl Composer<'_> {
                     155..165 => Call::Undo(raw.last().copied().unwrap_or(letter), &raw),
                     165..175 => Call::Undo(letter, &raw),
                     175..180 => Call::Text(room),
-                    180..185 | 199 if goes_on => Call::Key(letter, room),
+                    180..187 | 199 if goes_on => Call::Key(letter, room),
                     180..183 => Call::Reset,
                     183..185 => Call::SetMethod(self.run.random().below(2) as u32),
                     185..187 => Call::SetMode(1),

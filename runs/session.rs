@@ -376,8 +376,8 @@ pub const POKES: [(usize, &[u8]); 33] = [
     (7, &[1, 255]),
     (8, &[0x62, 0x80]), (9, &[1, 2]), (10, &[1]), (11, &[1, 255]), (12, &[0x61, 1]), (13, &[1]), (14, &[1, 0x31, 0x36, 0x61, 0x73, 0x80]),
     (15, &[1, 2, 255]), (16, &[2, 4, 0xe2]), (17, &[0, 2]), (18, &[1]), (20, &[0, 2, 0xe2]), (21, &[0, 2]), (22, &[0, 0x6a, 0x7a]),
-    (23, &[0, 2]), (32, &[1]), (36, &[1]), (38, &[0x73]), (39, &[1]), (OLD_SIZE - 8, &[0x61]), (OLD_SIZE - 2, &[0x73]), (OLD_SIZE - 1, &[1]),
-    (SIZE - 8, &[0x61]), (SIZE - 2, &[0x73]), (SIZE - 1, &[1]),
+    (23, &[0, 2]), (32, &[1]), (36, &[1]), (38, &[0x73]), (39, &[1]), (OLD_SIZE - 8, &[0x61]), (OLD_SIZE - 2, &[0x73]),
+    (OLD_SIZE - 1, &[1]), (SIZE - 8, &[0x61]), (SIZE - 2, &[0x73]), (SIZE - 1, &[1]),
 ];
 pub const POKED: [Cell; 3] = [
     Cell { base: 'a', mark: None, tone: None, upper: false },
@@ -408,6 +408,12 @@ fn unsound() -> Vec<String> {
                 Call::Key(key, _) => shorter.keys(&[key]).line(),
                 _ => shorter.named(call).line(),
             });
+        }
+    }
+    for cell in [0, OLD_CELLS - 1, OLD_CELLS, CELLS - 1] {
+        for (place, value) in [(0, 0x80), (6, b'z'), (7, 2)] {
+            let full = Session::handed(&handed(Telex, &[plain('b'); CELLS]));
+            lines.push(full.poke(HEAD + 8 * cell + place, value).named(Call::CheckComposition).line());
         }
     }
     lines.push(session().length(OLD_SIZE - 1).undo('\u{80}', &"b".repeat(65)).line());

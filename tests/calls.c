@@ -618,6 +618,19 @@ static void soundness_facts(void)
         FACT(reset() == PASDRONGEL_REFUSED_UNSOUND);
         state[i] = old;
     }
+    /* and so is each cell up to the last tested: its base, its mark, its tone and its flag */
+    fresh(PASDRONGEL_TELEX);
+    while (state[2] < CELLS)
+        FACT(literal('b') == PASDRONGEL_DONE);
+    for (i = 0; i < CELLS; i++)
+        for (j = 0; j < 8; j++) {
+            uint8_t old = cell(i)[j];
+            cell(i)[j] = 0x80;
+            FACT(check_composition() == PASDRONGEL_REFUSED_UNSOUND);
+            FACT(text(PASDRONGEL_TEXT_ROOM) == PASDRONGEL_REFUSED_UNSOUND);
+            cell(i)[j] = old;
+        }
+    FACT(check_composition() == PASDRONGEL_DONE);
     /* sound cells that no key makes: a capital with no flag, a flag on U+0000, every tone on a consonant, every mark's
      * letter with no mark and with it */
     for (i = 0; tones[i] != '\0'; i++) {
