@@ -37,7 +37,7 @@ mod host {
 }
 
 /// The bytes of a composition, the number of Telex, and that of capitals on.
-const STATE: usize = 264;
+const STATE: usize = 776;
 const TELEX: u32 = 0;
 const CAPITALS_ON: u32 = 1;
 
@@ -95,6 +95,14 @@ fn typed_on(state: &mut State, keys: &[u32], text: &mut [u32]) -> usize {
         };
     }
     refused as usize
+}
+
+/// One key on bytes that are lent. How many letters were written; `None` for a refusal.
+pub fn host_key(state: &mut State, key: u32, text: &mut [u32]) -> Option<usize> {
+    let mut count = 0;
+    let (out, room) = (text.as_mut_ptr(), text.len());
+    let refusal = unsafe { host::pasdrongel_key(state.as_mut_ptr(), STATE, key, out, room, &mut count) };
+    (refusal == 0).then_some(count)
 }
 
 pub fn reset(state: &mut State) {

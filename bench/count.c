@@ -1,5 +1,5 @@
 /* One figure of bench/run over the note, once or twice: bench/count counts the instructions of both, and the difference is
- * that of one time.
+ * that of one time. What a time alters it finds made ready, for both times whichever is asked.
  *
  *   count NOTE FIGURE TIMES      prints how many keys, words or calls one time has */
 #include "pasdrongel.h"
@@ -13,6 +13,12 @@
 /* Both reset a habit's composition at this key (bench/note.rs). */
 #define RESET 0x0a
 #define TELEX 0
+#define MOST_TIMES 2
+/* Of one key over so many cells, as in bench/note.rs: what is typed, and the word with which the cells end. */
+#define LETTER 'b'
+#define TONE 's'
+static const uint32_t last_word[] = {'x', 'a', 'n', 'h'};
+#define LAST_LENGTH (sizeof last_word / sizeof *last_word)
 /* The letters of a part, as in bench/note.rs. */
 #define PART 16
 /* What the line has that parts are counted on: so many words, and this one open. */
@@ -33,6 +39,9 @@ static uint32_t note[MOST_KEYS], keys[MOST_KEYS];
 static size_t note_length, key_count;
 static struct word words[MOST_WORDS];
 static size_t word_count;
+/* The composition after the keys up to each gap, for each time. */
+static uint8_t states[MOST_TIMES][MOST_WORDS][PASDRONGEL_COMPOSITION_BYTES];
+static size_t state_count;
 /* The note as one line, and the state on which a part of it is counted. */
 static uint32_t line[PASDRONGEL_LINE_LETTERS];
 static size_t line_length;
@@ -78,10 +87,20 @@ static void add_to_line(uint32_t letter)
     line[line_length++] = letter;
 }
 
+static void add_state(void)
+{
+    if (state_count == MOST_WORDS)
+        fail("the note has too many words");
+    for (int time = 0; time < MOST_TIMES; time++)
+        memcpy(states[time][state_count], state, sizeof state);
+    state_count++;
+}
+
 /* What the keys of a word make: to the line as it is, and without digits and points, as bench/note.rs parts it. */
 static void add_words(const uint32_t *typed, size_t length)
 {
     type(typed, length, 0);
+    add_state();
     for (size_t at = 0; at < text_length; at++)
         add_to_line(text[at]);
     size_t letters = 0;
@@ -123,7 +142,7 @@ static void add_key(uint32_t key)
     keys[key_count++] = key;
 }
 
-/* One line of all; a key that would need a 33rd cell starts afresh. */
+/* One line of all; a key that would need a 97th cell starts afresh. */
 static void reset_when_full(void)
 {
     begin(0);
@@ -140,8 +159,43 @@ static void reset_when_full(void)
     }
 }
 
+static int of_cells(const char *figure)
+{
+    return strstr(figure, "-at-") != NULL;
+}
+
+/* The keys of the note up to the last word, from as far back as so many cells ask, and then one more. */
+static void take_cells(const char *figure)
+{
+    size_t cells = strtoul(strstr(figure, "-at-") + strlen("-at-"), NULL, 10), end = 0, from;
+    while (end + LAST_LENGTH <= note_length && memcmp(note + end, last_word, sizeof last_word))
+        end++;
+    end += LAST_LENGTH;
+    if (end > note_length || end < cells)
+        fail("the note has too few cells before the word");
+    for (size_t at = 0; at < end; at++)
+        if (note[at] == RESET)
+            note[at] = ' ';
+    /* a key makes one cell or none */
+    for (from = end - cells;; from--) {
+        text_length = 0;
+        type(note + from, end - from, 0);
+        if (text_length == cells)
+            break;
+        if (from == 0)
+            fail("the note has too few cells before the word");
+    }
+    for (; from < end; from++)
+        add_key(note[from]);
+    add_key(strstr(figure, "tone") ? TONE : LETTER);
+}
+
 static void take_habit(const char *figure)
 {
+    if (of_cells(figure)) {
+        take_cells(figure);
+        return;
+    }
     int line = strstr(figure, "line") != NULL, caps_lock = !strcmp(figure, "key-capitals");
     if (strstr(figure, "one")) {
         reset_when_full();
@@ -182,7 +236,7 @@ static size_t line_words(void)
     return told;
 }
 
-/* The keys that are typed, the words, or the one call. */
+/* The keys that are typed, the words, or the one call or key. */
 static size_t units(const char *figure)
 {
     size_t typed = 0;
@@ -190,8 +244,10 @@ static size_t units(const char *figure)
         typed += keys[at] != RESET;
     if (!strcmp(figure, "line") || !strcmp(figure, "line-part"))
         return line_words();
-    if (of_part(figure))
+    if (of_part(figure) || of_cells(figure))
         return 1;
+    if (!strcmp(figure, "reset"))
+        return state_count;
     return !strcmp(figure, "verdict") || !strcmp(figure, "cut") ? word_count : typed;
 }
 
@@ -204,8 +260,18 @@ static void run_parts(void)
     pasdrongel_line_answer(line_state, sizeof line_state, &told, &no, &first);
 }
 
+/* The keys without the last, and with it the second time. */
+static void run_cells(const char *figure, int times)
+{
+    size_t length = key_count - MOST_TIMES + (size_t)times;
+    if (strncmp(figure, "key", strlen("key")))
+        type(keys, length, 0);
+    else
+        pasdrongel_bench_keys(keys, length, text, PASDRONGEL_CELLS);
+}
+
 /* The figure once over the note. */
-static void run(const char *figure)
+static void run(const char *figure, int time)
 {
     size_t onset, vowels;
     uint32_t yes;
@@ -218,6 +284,9 @@ static void run(const char *figure)
         pasdrongel_bench_keys(keys, key_count, text, PASDRONGEL_CELLS);
     } else if (!strncmp(figure, "call", strlen("call"))) {
         type(keys, key_count, 0);
+    } else if (!strcmp(figure, "reset")) {
+        for (size_t at = 0; at < state_count; at++)
+            pasdrongel_reset(states[time][at], sizeof states[time][at]);
     } else if (!strcmp(figure, "verdict")) {
         for (size_t at = 0; at < word_count; at++)
             pasdrongel_verdict(words[at].letters, words[at].length, &yes);
@@ -244,8 +313,14 @@ int main(int argc, char **argv)
     read_note(argv[1]);
     take_habit(argv[2]);
     take_state(argv[2]);
-    for (int time = atoi(argv[3]); time > 0; time--)
-        run(argv[2]);
+    int times = atoi(argv[3]);
+    if (times < 1 || times > MOST_TIMES)
+        fail("once or twice");
+    if (of_cells(argv[2]))
+        run_cells(argv[2], times);
+    else
+        for (int time = 0; time < times; time++)
+            run(argv[2], time);
     printf("%zu\n", units(argv[2]));
     return 0;
 }

@@ -2,7 +2,7 @@
 //! did.
 
 use crate::calls::{self, State, Typist};
-use crate::note::{Habit, Note, DRAFTED, PART, ROOM};
+use crate::note::{Habit, Note, DRAFTED, LETTER, PART, ROOM, TIMES, TONE};
 use std::hint::black_box;
 
 pub type Side = fn(&mut Note) -> usize;
@@ -38,13 +38,18 @@ macro_rules! engine {
     };
 }
 
+/// Of one key by itself: the floor is what is done beside the key, and to be taken off.
+const fn alone(name: &'static str, what: &'static str, ours: Side, floor: Side) -> Figure {
+    Figure { name, what, unit: "key", ours, rust: None, floor: Some(floor) }
+}
+
 #[rustfmt::skip]
 pub const FIGURES: &[Figure] = &[
     Figure { name: "key-space", what: "key by value, reset at each space", unit: "key",
         ours: key_space, rust: engine!(key_space), floor: Some(floor_space) },
     Figure { name: "key-line", what: "key by value, reset at each line's end", unit: "key",
         ours: key_line, rust: engine!(key_line), floor: Some(floor_line) },
-    Figure { name: "key-one", what: "key by value, reset at the 33rd cell", unit: "key",
+    Figure { name: "key-one", what: "key by value, reset at the 97th cell", unit: "key",
         ours: key_one, rust: engine!(key_one), floor: Some(floor_one) },
     Figure { name: "key-inner-space", what: "inner key, reset at each space", unit: "key",
         ours: key_inner_space, rust: engine!(key_space), floor: Some(floor_space) },
@@ -56,6 +61,21 @@ pub const FIGURES: &[Figure] = &[
         ours: call_capitals, rust: engine!(key_space), floor: Some(floor_space) },
     Figure { name: "key-capitals", what: "C call, capitals on, keys in capitals", unit: "key",
         ours: key_capitals, rust: engine!(key_capitals), floor: Some(floor_capitals) },
+    alone("call-at-0", "C call, a letter over 0 cells", call_at::<0>, copy_at::<0>),
+    alone("call-at-8", "C call, a letter over 8 cells", call_at::<8>, copy_at::<8>),
+    alone("call-at-32", "C call, a letter over 32 cells", call_at::<32>, copy_at::<32>),
+    alone("call-at-64", "C call, a letter over 64 cells", call_at::<64>, copy_at::<64>),
+    alone("call-at-95", "C call, a letter over 95 cells", call_at::<95>, copy_at::<95>),
+    alone("call-tone-at-0", "C call, a tone key over 0 cells", call_tone_at::<0>, copy_at::<0>),
+    alone("call-tone-at-8", "C call, a tone key over 8 cells", call_tone_at::<8>, copy_at::<8>),
+    alone("call-tone-at-32", "C call, a tone key over 32 cells", call_tone_at::<32>, copy_at::<32>),
+    alone("call-tone-at-64", "C call, a tone key over 64 cells", call_tone_at::<64>, copy_at::<64>),
+    alone("call-tone-at-95", "C call, a tone key over 95 cells", call_tone_at::<95>, copy_at::<95>),
+    alone("key-tone-at-0", "by value, a tone key over 0 cells", key_tone_at::<0>, before::<0>),
+    alone("key-tone-at-8", "by value, a tone key over 8 cells", key_tone_at::<8>, before::<8>),
+    alone("key-tone-at-32", "by value, a tone key over 32 cells", key_tone_at::<32>, before::<32>),
+    alone("key-tone-at-64", "by value, a tone key over 64 cells", key_tone_at::<64>, before::<64>),
+    alone("key-tone-at-95", "by value, a tone key over 95 cells", key_tone_at::<95>, before::<95>),
     Figure { name: "reset", what: "C call reset, after a copy of the bytes", unit: "word",
         ours: reset, rust: None, floor: Some(copy) },
     Figure { name: "write-draft", what: "C call, a draft of 10 cells written", unit: "cell",
@@ -135,6 +155,46 @@ fn floor_one(note: &mut Note) -> usize {
 
 fn floor_capitals(note: &mut Note) -> usize {
     typed(&note.capitals, calls::floor)
+}
+
+// One key over so many cells, again and again.
+
+/// On a copy of the composition; the floor is the copy.
+fn pressed(note: &Note, cells: usize, key: u32) -> usize {
+    let state = &note.over(cells).state;
+    let mut text = [0; ROOM];
+    for _ in 0..TIMES {
+        let mut state = black_box(*state);
+        black_box(calls::host_key(&mut state, key, &mut text));
+        black_box((&state, &text));
+    }
+    TIMES
+}
+
+fn call_at<const CELLS: usize>(note: &mut Note) -> usize {
+    pressed(note, CELLS, LETTER)
+}
+
+fn call_tone_at<const CELLS: usize>(note: &mut Note) -> usize {
+    pressed(note, CELLS, TONE)
+}
+
+fn copy_at<const CELLS: usize>(note: &mut Note) -> usize {
+    for _ in 0..TIMES {
+        black_box(&black_box(note.over(CELLS).state));
+    }
+    TIMES
+}
+
+/// The keys that make the composition, and then the tone key; the floor is the keys that make it.
+fn key_tone_at<const CELLS: usize>(note: &mut Note) -> usize {
+    black_box(calls::keys(&note.over(CELLS).tones, &mut [0; ROOM]));
+    TIMES
+}
+
+fn before<const CELLS: usize>(note: &mut Note) -> usize {
+    black_box(calls::keys(&note.over(CELLS).before, &mut [0; ROOM]));
+    TIMES
 }
 
 /// A copy of each word's composition is reset; the floor is the copy.

@@ -6,7 +6,7 @@ use crate::calls::{self, State, Typist};
 pub const RESET: u32 = 0x0a;
 
 /// More letters than a text can have.
-pub const ROOM: usize = 64;
+pub const ROOM: usize = 128;
 
 /// How many cells the drafts have that are timed, and how many bytes they have then.
 pub const DRAFTED: usize = 10;
@@ -14,6 +14,14 @@ const DRAFT: usize = 15 + 7 * DRAFTED;
 
 /// The letters of a part in which a note line is handed over.
 pub const PART: usize = 16;
+
+/// Over how many cells in use a key is timed by itself, what is typed there, and how often.
+const OVER: [usize; 5] = [0, 8, 32, 64, 95];
+pub const LETTER: u32 = 'b' as u32;
+pub const TONE: u32 = 's' as u32;
+pub const TIMES: usize = 200;
+/// The cells end with the first of these words in the note: it has a vowel, and no tone.
+const LAST: &str = "xanh";
 
 /// The keys, with a RESET wherever a host of this habit starts a fresh composition.
 pub struct Habit {
@@ -51,12 +59,23 @@ pub struct Half {
     pub draft: Vec<u8>,
 }
 
+/// A composition of so many cells: the last ones of the note up to LAST, typed as one line.
+pub struct Over {
+    cells: usize,
+    pub state: State,
+    /// The keys that make it.
+    pub before: Vec<u32>,
+    /// The same, and then TIMES the tone key, which changes nothing after the first time. On no cells it is a letter, and a RESET
+    /// stands before each, in `before` too.
+    pub tones: Vec<u32>,
+}
+
 pub struct Note {
     /// A fresh composition after each space and each line.
     pub space: Habit,
     /// A fresh composition after each line; its spaces are typed.
     pub line: Habit,
-    /// One line of all; a fresh composition where a key would need a 33rd cell, and that key opens it.
+    /// One line of all; a fresh composition where a key would need a 97th cell, and that key opens it.
     pub one: Habit,
     /// As `space`, with Caps Lock: every ASCII letter among the keys is a capital.
     pub capitals: Habit,
@@ -64,6 +83,8 @@ pub struct Note {
     pub states: Vec<State>,
     /// The compositions half typed, from each word of a line on.
     pub halves: Vec<Half>,
+    /// One for each number of OVER.
+    over: Vec<Over>,
     /// The words that the keys make, without digits and points.
     pub words: Vec<Text>,
     /// The lines that the keys make, each word composed by itself.
@@ -93,6 +114,7 @@ impl Note {
             one: Habit::new(reset_when_full(text)),
             states: text.split_whitespace().map(state_of).collect(),
             halves: text.lines().flat_map(halves).collect(),
+            over: OVER.iter().map(|&cells| over(text, cells)).collect(),
             words,
             lines,
             whole,
@@ -104,10 +126,15 @@ impl Note {
         }
     }
 
+    /// The composition of so many cells, a number of OVER.
+    pub fn over(&self, cells: usize) -> &Over {
+        self.over.iter().find(|over| over.cells == cells).expect("it is one of OVER")
+    }
+
     /// The sides do the same: after every key of every habit they have the same text, and no key is refused; and they
     /// judge and cut every word alike. With capitals on the text has the same letters but for their case, and where no
     /// key is a small letter, the capital of each. What is read of a draft is the composition that it was written of. The
-    /// note as one line is told alike, in parts too.
+    /// note as one line is told alike, in parts too. Over so many cells a letter makes one more, and a tone key none.
     pub fn check(&mut self) {
         for habit in [&self.space, &self.line, &self.one, &self.capitals] {
             for keys in habit.keys.split(|&key| key == RESET) {
@@ -129,6 +156,13 @@ impl Note {
             let mut read = [u8::MAX; size_of::<State>()];
             assert!(calls::read_draft(&draft_of(state), &mut read), "what was written is a draft");
             assert_eq!(read, *state);
+        }
+        for Over { cells, state, before, tones } in &self.over {
+            let mut text = [0; ROOM];
+            assert_eq!(calls::host_key(&mut state.clone(), LETTER, &mut text), Some(cells + 1));
+            assert_eq!(calls::host_key(&mut state.clone(), TONE, &mut text), Some(*cells.max(&1)));
+            assert_eq!(text_of(before, calls::keys), text_of(before, calls::host_keys));
+            assert_eq!(text_of(tones, calls::keys).map(|text| text.chars().count()), Some(*cells.max(&1)));
         }
         let told = calls::line_check(&self.whole.letters).expect("the note is a line");
         assert_eq!(calls::line_in_parts(&self.whole.letters, PART), Some(told));
@@ -180,6 +214,26 @@ fn half(keys: &str) -> Option<Half> {
     let ends = keys.char_indices().map(|(at, key)| at + key.len_utf8());
     let halves = ends.map(|end| state_of(&keys[..end])).map(|state| Half { draft: draft_of(&state), state });
     halves.filter(|half| half.draft.len() == DRAFT).last()
+}
+
+/// The cells that keys leave of a fresh composition, if none is refused.
+fn cells_of(keys: &[u32]) -> Option<usize> {
+    text_of(keys, calls::host_keys).map(|text| text.chars().count())
+}
+
+/// The keys of the note up to LAST, from as far back as so many cells ask.
+fn over(text: &str, cells: usize) -> Over {
+    let end = text.find(LAST).expect("the note has the word") + LAST.len();
+    let keys: Vec<u32> = text[..end].chars().map(|key| u32::from(if key == '\n' { ' ' } else { key })).collect();
+    let from = (0..=keys.len()).rev().find(|&from| cells_of(&keys[from..]) == Some(cells));
+    let before = keys[from.expect("the word stands far enough in the note")..].to_vec();
+    let mut state = [0; size_of::<State>()];
+    assert_eq!(calls::host_typed(&mut state, &before, &mut [0; ROOM]), 0, "no key of the note is refused");
+    let again = |key: &[u32]| key.repeat(TIMES);
+    if cells == 0 {
+        return Over { cells, state, before: again(&[RESET]), tones: again(&[RESET, TONE]) };
+    }
+    Over { cells, state, tones: [&before[..], &again(&[TONE])].concat(), before }
 }
 
 /// The text of a line, each word composed by itself.

@@ -1,5 +1,5 @@
 /* A panel, in little: lines of keys in; out come the words, whether each is a syllable, the word that a dial would offer
- * next, and the whole line as it is composed.
+ * next, and the whole line as it is composed. A text of more letters than a word may have is told to be no word.
  *
  *     cc -o panel panel.c keep.c $(pkg-config --cflags --libs pasdrongel)
  *     echo 'pha6n 2' | ./panel vni
@@ -59,19 +59,26 @@ static void stop(const char *what)
     exit(1);
 }
 
+/* Letters as UTF-8: in pieces, as a text or a line may have more of them than one call takes. */
+static size_t spell(const uint32_t *letters, size_t length, uint8_t *bytes, size_t room)
+{
+    size_t piece, count, size = 0;
+    for (; length > 0; letters += piece, length -= piece, size += count) {
+        piece = length < PASDRONGEL_WORD_LETTERS ? length : PASDRONGEL_WORD_LETTERS;
+        must(pasdrongel_write_utf8(letters, piece, bytes + size, room - size, &count));
+    }
+    return size;
+}
+
 static void print(const uint32_t *letters, size_t length)
 {
-    uint8_t bytes[3]; /* no letter takes more */
-    size_t i, count;
-    for (i = 0; i < length; i++) {
-        must(pasdrongel_write_utf8(letters + i, 1, bytes, sizeof bytes, &count));
-        fwrite(bytes, 1, count, stdout);
-    }
+    uint8_t bytes[3 * PASDRONGEL_READ_ROOM]; /* no letter takes more than three */
+    fwrite(bytes, 1, spell(letters, length, bytes, sizeof bytes), stdout);
 }
 
 static void end_word(void)
 {
-    uint32_t word[PASDRONGEL_TEXT_ROOM], next[PASDRONGEL_LISTED_ROOM], yes;
+    uint32_t word[PASDRONGEL_TEXT_ROOM], next[PASDRONGEL_LISTED_ROOM], yes, answer;
     size_t i, length, next_length;
     must(pasdrongel_text(composition, sizeof composition, word, PASDRONGEL_TEXT_ROOM, &length));
     must(pasdrongel_reset(composition, sizeof composition));
@@ -81,7 +88,12 @@ static void end_word(void)
     memcpy(line + line_length, word, length * sizeof *word);
     line_length += length;
     print(word, length);
-    must(pasdrongel_verdict(word, length, &yes));
+    answer = pasdrongel_verdict(word, length, &yes);
+    if (PASDRONGEL_REFUSAL(answer) == PASDRONGEL_REFUSED_LONG) { /* and so would the dial refuse it */
+        printf("\tno word\t\n");
+        return;
+    }
+    must(answer);
     printf("\t%s\t", yes ? "yes" : "no");
     for (i = 0; i < length; i++) { /* the list has small letters without tones, and so the dial starts from these */
         must(pasdrongel_lower(word[i], &word[i]));
@@ -107,6 +119,8 @@ static uint32_t undo(uint32_t key)
     return answer;
 }
 
+/* Of more keys than undo may be given the first are let go. A tone can be taken back all the same, by the last key, and a mark if
+ * its keys are among those that are left. */
 static void remember(uint32_t key)
 {
     if (raw_length == PASDRONGEL_WORD_LETTERS)
@@ -157,13 +171,10 @@ static void tell(int answer)
 static void keep_note(void)
 {
     uint8_t note[NOTE_ROOM];
-    size_t i, count, size = 0;
+    size_t count, size;
     if (draft_file == NULL)
         return;
-    for (i = 0; i < line_length; i++) {
-        must(pasdrongel_write_utf8(line + i, 1, note + size, sizeof note - size, &count));
-        size += count;
-    }
+    size = spell(line, line_length, note, sizeof note);
     note[size++] = '\n';
     must(pasdrongel_write_draft(composition, sizeof composition, note + size, sizeof note - size, &count));
     tell(keep_write(draft_file, note, size + count));

@@ -23,7 +23,7 @@ extern "C" {
 
 /* The version of this header, and its three parts in one number. */
 #define PASDRONGEL_VERSION_MAJOR 0
-#define PASDRONGEL_VERSION_MINOR 6
+#define PASDRONGEL_VERSION_MINOR 7
 #define PASDRONGEL_VERSION_PATCH 0
 #define PASDRONGEL_VERSION \
     (PASDRONGEL_VERSION_MAJOR * 1000000 + PASDRONGEL_VERSION_MINOR * 1000 + PASDRONGEL_VERSION_PATCH)
@@ -38,7 +38,7 @@ extern "C" {
  * The one is pasdrongel_line_check: it goes one call deeper for each word and the gap after it, and a line of 4,096 letters has
  * at most 2,048 words. So pasdrongel_line_check takes at most 99,328 bytes of stack. A host with a small stack hands the
  * line over in parts (pasdrongel_line_part), which need none of that. */
-#define PASDRONGEL_STACK_BYTES 640
+#define PASDRONGEL_STACK_BYTES 768
 
 /* Memory. A call is lent buffers, each a pointer and a length, and places for one number, each a pointer. It reads and
  * writes nothing else, and keeps no pointer. The rest is for the host to see to: no call can test it.
@@ -84,7 +84,9 @@ extern "C" {
 
 /* Limits, and outputs that always suffice. */
 
-/* The most letters of a word, of a raw string, and of what is written as UTF-8. */
+/* The most letters of a word, of a raw string, and of what is written as UTF-8. The text of a composition may have more, up to
+ * PASDRONGEL_CELLS. Then it is no word: the speller and pasdrongel_next_word refuse it by 6. As UTF-8 it is written in pieces
+ * of at most so many letters, cut anywhere: their bytes, one after another, are those of the whole. */
 #define PASDRONGEL_WORD_LETTERS 64
 /* The most bytes of a line, and of what is read as UTF-8. */
 #define PASDRONGEL_LINE_BYTES 256
@@ -93,12 +95,12 @@ extern "C" {
 /* The bytes of the state of a note line that is handed over in parts. */
 #define PASDRONGEL_LINE_STATE_BYTES 26
 /* The bytes of a composition, and the most cells that it uses. */
-#define PASDRONGEL_COMPOSITION_BYTES 264
-#define PASDRONGEL_CELLS 32
+#define PASDRONGEL_COMPOSITION_BYTES 776
+#define PASDRONGEL_CELLS 96
 /* With this many letters of room the calls that write a composition's text never refuse by 3. */
-#define PASDRONGEL_TEXT_ROOM 32
+#define PASDRONGEL_TEXT_ROOM 96
 /* With this many bytes of room pasdrongel_write_draft never refuses by 3. */
-#define PASDRONGEL_DRAFT_ROOM 239
+#define PASDRONGEL_DRAFT_ROOM 687
 /* With this many letters of room the calls that write a listed word never refuse by 3. */
 #define PASDRONGEL_LISTED_ROOM 8
 /* With this many letters of room pasdrongel_read_utf8 never refuses by 3. */
@@ -127,7 +129,8 @@ extern "C" {
 uint32_t pasdrongel_version(void);
 
 /* The bytes of a composition in the library that is linked: PASDRONGEL_COMPOSITION_BYTES of the header that it was built
- * with. */
+ * with. A host that may meet another library than it was compiled for compares the two when it starts. One that was compiled
+ * for version 0.6.0 has 264 bytes for a composition, and every call that is given them refuses by 10, pasdrongel_new too. */
 size_t pasdrongel_composition_bytes(void);
 
 /* A text for a whole answer, of which the low byte decides: in English, in ASCII, on one line and of at most 63 letters. A
@@ -239,7 +242,8 @@ uint32_t pasdrongel_remove_last(uint8_t *state, size_t size, uint32_t *text, siz
  *
  * A host in Vietnamese mode asks at each key, before pasdrongel_key, and takes it as a key where this refuses by 5, as
  * examples/panel.c does; the mode is not looked at here. The host keeps each key that was taken, triggers too; it drops the
- * last at pasdrongel_remove_last, and all at pasdrongel_reset. Refuses by 6 if `length` is over PASDRONGEL_WORD_LETTERS, by 1
+ * last at pasdrongel_remove_last, and all at pasdrongel_reset. Where they are more than PASDRONGEL_WORD_LETTERS it gives the
+ * last so many; a mark whose keys are not among these stays. Refuses by 6 if `length` is over PASDRONGEL_WORD_LETTERS, by 1
  * if `trigger` or one of `raw` is no letter, by 5 if there is nothing to undo, which is always so under VNI. `raw` may be
  * NULL if `length` is 0. `state`, `raw` and `behaviour` lie apart. */
 uint32_t pasdrongel_undo(
@@ -267,7 +271,8 @@ uint32_t pasdrongel_set_capitals(uint8_t *state, size_t size, uint32_t on);
 
 /* Drafts. A draft is a composition as bytes for keeping, in a file or on a line to another machine: its method, mode, cells
  * and setting of capitals, as tagged fields. What the bytes say is stated in docs/DRAFTS.md, and a later version of the
- * library reads them as this one does. A sound composition has one draft, of 15 bytes and 7 for each cell in use. */
+ * library reads them as this one does. A sound composition has one draft, of 15 bytes and 7 for each cell in use. Version
+ * 0.6.0 has at most 32 cells: up to there it writes and reads the same bytes, and it refuses a longer draft by 11. */
 
 /* Writes the draft of a composition, from the start of `draft`, which has room for `room` bytes, and their number to
  * `*count`. Refuses by 3 if `room` is less than the bytes. `draft` may be NULL if `room` is 0. `state`, `draft` and `count`

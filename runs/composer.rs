@@ -3,11 +3,13 @@
 //! twice, with capitals off, where the Rust alone answers, and on.
 
 use crate::calls::host;
-use crate::composition::{answered, show_bytes, Call, Composition, Left, Oracle, State, CELLS, HEAD, MOST_BYTES, ROOM, SIZE};
+use crate::composition::{
+    answered, show_bytes, Call, Composition, Left, Oracle, State, CELLS, HEAD, MOST_BYTES, OLD_CELLS, ROOM, SIZE,
+};
 use crate::engine::bamboo::spy::Cell;
 use crate::engine::bamboo::{BambooEngine, Mode};
 use crate::input_method::InputMethod::{self, Telex, Vni};
-use crate::oracle::{self, alphabet, MARKS, TONE_KEYS, WORD_LETTERS};
+use crate::oracle::{self, alphabet, FULL, MARKS, TONE_KEYS, WORD_LETTERS};
 use crate::report::{Random, Run};
 use crate::session;
 
@@ -196,7 +198,7 @@ impl Composer<'_> {
     }
 
     fn size(&mut self) {
-        self.run.begin("composition_bytes: a head of eight bytes, and eight for each of 32 cells");
+        self.run.begin("composition_bytes: a head of eight bytes, and eight for each of 96 cells");
         let ours = unsafe { host::pasdrongel_composition_bytes() };
         self.run.compare("composition_bytes", ours, SIZE, Vec::new, String::new);
     }
@@ -285,7 +287,7 @@ impl Composer<'_> {
                 }
             }
         }
-        self.begin("every call: random cells, 0 to 32 of them");
+        self.begin("every call: random cells, 0 to 96 of them");
         for _ in self.run.times(20_000) {
             let count = self.run.random().below(CELLS + 1);
             let composition = self.random_composition(count);
@@ -347,7 +349,8 @@ impl Composer<'_> {
         }
         self.begin("undo: random raw strings of up to 66 letters, capitals and foreign letters among them, both methods");
         for _ in self.run.times(100_000) {
-            let count = self.run.random().below(8);
+            let most = self.run.random().of(&[8, 8, 8, CELLS + 1]);
+            let count = self.run.random().below(most);
             let state = self.random_composition(count).bytes();
             let random = self.run.random();
             let length = if random.below(4) == 0 { random.below(WORD_LETTERS + 3) } else { random.below(6) };
@@ -362,7 +365,7 @@ impl Composer<'_> {
     }
 
     fn rooms(&mut self) {
-        self.begin("key, text, remove_last: 0 to 32 cells, room 0 to 34");
+        self.begin("key, text, remove_last: 0 to 96 cells, room 0 to 98");
         for count in 0..=CELLS {
             for _ in self.run.times(4) {
                 let state = self.random_composition(count).bytes();
@@ -378,9 +381,10 @@ impl Composer<'_> {
     }
 
     fn full(&mut self) {
-        self.begin("key, literal: every letter on 30, 31 and 32 cells, then text and remove_last");
+        self.begin("key, literal: every letter on 94 to 96 cells, on 31 to 33 and on 63 to 65, then text and remove_last");
+        let around = |count: usize| count - 1..=count + 1;
         for method in [Telex, Vni] {
-            for count in CELLS - 2..=CELLS {
+            for count in around(OLD_CELLS).chain(around(WORD_LETTERS)).chain(CELLS - 2..=CELLS) {
                 for filler in ["b", "a", "uo", "a.", "đ"] {
                     let cells: String = self.cased(filler).chars().cycle().take(count).collect();
                     let state = self.appended(method, &cells);
@@ -395,7 +399,7 @@ impl Composer<'_> {
                 }
             }
         }
-        self.begin("key, literal: numbers that are no letter, on 0, 1 and 32 cells, in either mode");
+        self.begin("key, literal: numbers that are no letter, on 0, 1 and 96 cells, in either mode");
         for count in [0, 1, CELLS] {
             for mode in [Mode::Vietnamese, Mode::English] {
                 let state = Composition { mode, ..self.handed(Telex, &vec![plain('a'); count]) }.bytes();
@@ -413,7 +417,7 @@ impl Composer<'_> {
         self.begin("check_composition, key: every byte changed to every value");
         let odd = odd_cells();
         let cells: Vec<Cell> = odd.iter().copied().step_by(odd.len() / CELLS).take(CELLS).collect();
-        let some = [&[][..], &[plain('a')], &cells[..7], &cells];
+        let some = [&[][..], &[plain('a')], &cells[..7], &cells[..OLD_CELLS], &cells];
         let changed: Vec<State> = some.map(|cells| self.handed(Telex, cells).bytes()).into();
         for state in &changed {
             for place in 0..SIZE {
@@ -460,7 +464,7 @@ impl Composer<'_> {
             let (random, capitals) = (self.run.random(), u8::from(self.capitals));
             if turn % 8 == 0 {
                 bytes = [(); SIZE].map(|()| random.next() as u8);
-                bytes[..HEAD].copy_from_slice(&[0, 0, random.below(40) as u8, capitals, 0, 0, 0, 0]);
+                bytes[..HEAD].copy_from_slice(&[0, 0, random.below(CELLS + 8) as u8, capitals, 0, 0, 0, 0]);
             } else {
                 (0..2).for_each(|_| bytes[random.below(HEAD + 8 * count.max(1))] = random.next() as u8);
             }
@@ -510,15 +514,19 @@ impl Composer<'_> {
     }
 
     /// Sessions as a host has them, with the text and the numbers asked for after each call. Where capitals are on at first,
-    /// they are turned off and on between the calls.
+    /// they are turned off and on between the calls. One in twenty is of a host that does not empty the cells, up to where they
+    /// are all used, and on.
     fn sessions(&mut self) {
-        self.begin("every call: random sessions of up to 130 calls, text, method, mode, capitals and count after each");
+        self.begin("every call: random sessions of up to 130 calls, and of 300, text, method, mode, capitals and count after each");
         let kinds = if self.capitals { 220 } else { 200 };
-        for _ in self.run.times(15_000) {
+        let mut full = 0;
+        for turn in self.run.times(15_000) {
             let method = self.run.random().of(&[Telex, Vni]);
             let mut state = self.appended(method, "");
             let mut raw: Vec<u32> = Vec::new();
-            for _ in 0..1 + self.run.random().below(130) {
+            let (goes_on, mut refused) = (turn % 20 == 0, false);
+            let calls = if goes_on { 300 } else { 1 + self.run.random().below(130) };
+            for _ in 0..calls {
                 let count = usize::from(state[2]);
                 let (kind, letter) = (self.run.random().below(kinds), random_key(self.run.random()));
                 let room = if self.run.random().below(8) > 0 { ROOM } else { self.run.random().below(count + 3) };
@@ -529,6 +537,7 @@ impl Composer<'_> {
                     155..165 => Call::Undo(raw.last().copied().unwrap_or(letter), &raw),
                     165..175 => Call::Undo(letter, &raw),
                     175..180 => Call::Text(room),
+                    180..187 | 199 if goes_on => Call::Key(letter, room),
                     180..183 => Call::Reset,
                     183..185 => Call::SetMethod(self.run.random().below(2) as u32),
                     185..187 => Call::SetMode(1),
@@ -537,7 +546,9 @@ impl Composer<'_> {
                     199 => Call::New(self.run.random().below(2) as u32),
                     _ => Call::SetCapitals(self.run.random().of(&[0, 1, 1])),
                 };
-                state = self.step(&state, call);
+                let left = self.call(&state, call);
+                refused |= left.refusal() == FULL;
+                state = left.state();
                 match call {
                     Call::Key(..) | Call::Literal(_) => raw.push(letter),
                     Call::RemoveLast(_) => drop(raw.pop()),
@@ -548,7 +559,9 @@ impl Composer<'_> {
                     self.call(&state, asked);
                 }
             }
+            full += u64::from(refused);
         }
+        assert!(full > 0, "no session came to where all cells are used");
     }
 }
 
@@ -556,14 +569,18 @@ impl Composer<'_> {
     /// One engine of the Rust through a whole session, with nothing handed in: what it keeps beside the cells is seen so.
     fn one_engine(&mut self) {
         self.begin(
-            "key, literal, remove_last, undo, reset: sessions of up to 130 calls on one engine of the Rust, its numbers after each",
+            "key, literal, remove_last, undo, reset: sessions of up to 130 calls, and of 400, on one engine of the Rust, its numbers \
+             after each",
         );
+        let mut filled = 0;
         for _ in self.run.times(2_000) {
             let method = self.run.random().of(&[Telex, Vni]);
             let (mut engine, mut state) = (BambooEngine::new(method), self.appended(method, ""));
             let mut raw: Vec<u32> = Vec::new();
-            for _ in 0..1 + self.run.random().below(130) {
+            let most = self.run.random().of(&[130, 130, 130, 400]);
+            for _ in 0..1 + self.run.random().below(most) {
                 let full = usize::from(state[2]) == CELLS;
+                filled += u64::from(full);
                 let (kind, key) = (self.run.random().below(100), random_key(self.run.random()));
                 let call = match kind {
                     0..90 if !full => Call::Key(key, ROOM),
@@ -580,6 +597,7 @@ impl Composer<'_> {
                 raw.push(key);
             }
         }
+        assert!(filled > 0, "no session came to where all cells are used");
     }
 
     /// The same keys with capitals off, on, and turned between them: bases, marks and tones are the same, and flags but for those
@@ -590,7 +608,8 @@ impl Composer<'_> {
             let method = self.run.random().of(&[Telex, Vni]);
             let (mut engine, mut off) = (BambooEngine::new(method), handed(method, &[]).bytes());
             let mut others = [Composition { capitals: true, ..handed(method, &[]) }.bytes(), off];
-            for _ in 0..1 + self.run.random().below(CELLS) {
+            let most = self.run.random().of(&[OLD_CELLS, OLD_CELLS, OLD_CELLS, CELLS]);
+            for _ in 0..1 + self.run.random().below(most) {
                 let key = Call::Key(self.run.random().letter_of(CASED_KEYS), ROOM);
                 let turn = Call::SetCapitals(self.run.random().below(2) as u32);
                 let theirs = Left::by(&off, answered(&mut engine, false, key));

@@ -12,10 +12,13 @@ use crate::input_method::InputMethod;
 use crate::oracle::{self, EMPTY, FULL, LONG, NO_UNDO, SHORT, UNSOUND, WORD_LETTERS};
 use std::fmt::{Debug, Formatter};
 
-pub const CELLS: usize = 32;
+pub const CELLS: usize = 96;
+/// The limit up to version 0.6.0: a draft of no more cells has the bytes that it had then.
+pub const OLD_CELLS: usize = 32;
 /// The method, the mode, the count, capitals, and reserved bytes: 0 in a sound composition.
 pub const HEAD: usize = 8;
 pub const SIZE: usize = HEAD + 8 * CELLS;
+pub const OLD_SIZE: usize = HEAD + 8 * OLD_CELLS;
 
 /// The most room of an output, and the most bytes of a composition, that the runs lend.
 pub const ROOM: usize = CELLS + 8;

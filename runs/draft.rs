@@ -2,7 +2,7 @@
 //! these two are written from request 2026-02's sentences and document 01's soundness, field by field.
 
 use crate::calls::{host, GUARD_BYTE, GUARD_COUNT, MARGIN};
-use crate::composition::{show_bytes, Composition, CELLS, SIZE};
+use crate::composition::{show_bytes, Composition, CELLS, OLD_CELLS, SIZE};
 use crate::engine::bamboo::spy::Cell;
 use crate::engine::bamboo::Mode;
 use crate::fixed::{byte, spaced};
@@ -18,8 +18,9 @@ pub const CAPITALS_TAG: u8 = 4;
 /// The tags in the order of their fields.
 pub const TAGS: [u8; 4] = [METHOD_TAG, MODE_TAG, CELLS_TAG, CAPITALS_TAG];
 
-/// The bytes of the longest draft.
+/// The bytes of the longest draft, now and up to version 0.6.0.
 pub const MOST: usize = 3 * 4 + 3 + 7 * CELLS;
+pub const OLD_MOST: usize = 3 * 4 + 3 + 7 * OLD_CELLS;
 
 /// 2026-02: "tagged fields, one-byte tag and two-byte length, high byte first".
 pub fn field(tag: u8, content: &[u8]) -> Vec<u8> {

@@ -2,8 +2,12 @@
 //! comparison is of one call: the number that it returns, the whole lent draft, and every byte of the composition.
 
 use crate::composer::{plain, random_composition, random_key};
-use crate::composition::{self, show_bytes, Composition, Oracle, State, CELLS, HEAD, MOST_BYTES, ROOM, SIZE};
-use crate::draft::{self, cell_bytes, contents, field, Call, Left, CAPITALS_TAG, CELLS_TAG, METHOD_TAG, MODE_TAG, MOST, TAGS};
+use crate::composition::{
+    self, show_bytes, Composition, Oracle, State, CELLS, HEAD, MOST_BYTES, OLD_CELLS, OLD_SIZE, ROOM, SIZE,
+};
+use crate::draft::{
+    self, cell_bytes, contents, field, Call, Left, CAPITALS_TAG, CELLS_TAG, METHOD_TAG, MODE_TAG, MOST, OLD_MOST, TAGS,
+};
 use crate::engine::bamboo::spy::Cell;
 use crate::engine::bamboo::Mode;
 use crate::input_method::InputMethod::{Telex, Vni};
@@ -82,7 +86,8 @@ fn random_of(random: &mut Random, count: usize) -> Composition {
     Composition { capitals: random.below(2) == 0, ..random_composition(random, count) }
 }
 
-/// Some compositions, whose drafts are changed in every way: none, one and two cells, seven, 32, and under other settings.
+/// Some compositions, whose drafts are changed in every way: none, one and two cells, seven, 32 and 96, and under
+/// other settings.
 fn some() -> Vec<Composition> {
     let odd = BASES.chars().flat_map(|base| cells_of(base, &[None, Some('s'), Some('5')]));
     let odd: Vec<Cell> = odd.collect::<Vec<Cell>>().into_iter().cycle().step_by(13).take(CELLS).collect();
@@ -95,6 +100,7 @@ fn some() -> Vec<Composition> {
         Composition { method: Vni, capitals: true, ..of(&[marked]) },
         of(&[marked, plain('B')]),
         Composition { mode: Mode::English, ..of(&odd[..7]) },
+        Composition { capitals: true, ..of(&odd[..OLD_CELLS]) },
         Composition { capitals: true, ..of(&odd) },
     ]
 }
@@ -189,13 +195,13 @@ impl Drafts<'_> {
 
     /// Compositions as keys make them.
     fn typed(&mut self) {
-        self.run.begin("write_draft, read_draft: what random keys make, after each of up to 40");
+        self.run.begin("write_draft, read_draft: what random keys make, after each of up to 140");
         let mut oracle = Oracle::new();
         for _ in self.run.times(2_000) {
             let mut composition = random_of(self.run.random(), 0);
             composition.mode = Mode::Vietnamese;
             let mut state = composition.bytes();
-            for _ in 0..1 + self.run.random().below(40) {
+            for _ in 0..1 + self.run.random().below(CELLS + 44) {
                 let key = random_key(self.run.random());
                 state = oracle.left(&state, composition::Call::Key(key, ROOM)).state();
                 self.both(&Composition::read(&state).expect("a key leaves a sound composition"));
@@ -204,7 +210,7 @@ impl Drafts<'_> {
     }
 
     fn random(&mut self) {
-        self.run.begin("write_draft, read_draft: random cells, 0 to 32 of them, read over others, sound or not");
+        self.run.begin("write_draft, read_draft: random cells, 0 to 96 of them, read over others, sound or not");
         for _ in self.run.times(40_000) {
             let count = self.run.random().below(CELLS + 1);
             let composition = random_of(self.run.random(), count);
@@ -219,7 +225,7 @@ impl Drafts<'_> {
     }
 
     fn rooms(&mut self) {
-        self.run.begin("write_draft: 0 to 32 cells, every room up to the draft's and past it");
+        self.run.begin("write_draft: 0 to 96 cells, every room up to the draft's and past it");
         for count in 0..=CELLS {
             for _ in self.run.times(2) {
                 let state = random_of(self.run.random(), count).bytes();
@@ -253,7 +259,7 @@ impl Drafts<'_> {
             state[HEAD + 4..HEAD + 6].copy_from_slice(&(number as u16).to_le_bytes());
             self.write(&state, 22);
         }
-        self.run.begin("write_draft: compositions of every length, and of 33 cells, room enough and none");
+        self.run.begin("write_draft: compositions of every length, and of 97 cells, room enough and none");
         for composition in some() {
             for length in 0..=MOST_BYTES {
                 let mut bytes = composition.bytes().to_vec();
@@ -434,7 +440,7 @@ impl Drafts<'_> {
                 }
             }
         }
-        self.run.begin("read_draft: each cell of 32 with a fault");
+        self.run.begin("read_draft: each cell of 96 with a fault");
         for place in 0..CELLS {
             for fault in 0..7 {
                 for value in BYTES {
@@ -495,10 +501,10 @@ impl Drafts<'_> {
             self.read(&[a]);
             (0..=0xff).for_each(|b| self.read(&[a, b]));
         }
-        self.run.begin("read_draft: random bytes, 0 to 300 of them, any, such as mean something, and after the start of a draft");
+        self.run.begin("read_draft: random bytes, 0 to 750 of them, any, such as mean something, and after the start of a draft");
         for turn in self.run.times(200_000) {
             let random = self.run.random();
-            let length = random.below(301);
+            let length = random.below(751);
             let start = match turn % 4 {
                 0 | 1 => Vec::new(),
                 _ => {
@@ -533,9 +539,9 @@ impl Drafts<'_> {
 
     /// More cells than a composition has, up to more than a length of two bytes can say, and strings that are long.
     fn long(&mut self) {
-        self.run.begin("read_draft: drafts of 31 to 100 cells, and of so many that their length takes more than two bytes");
+        self.run.begin("read_draft: drafts of 95 to 160 cells, and of so many that their length takes more than two bytes");
         let cell = cell_bytes(plain('a'));
-        let counts = (CELLS - 1..=100).chain([0xff, 0x100, 1000, 0x1000, 9361, 9362, 9363, 9364, 9394, 9395, 10_000]);
+        let counts = (CELLS - 1..=160).chain([0xff, 0x100, 1000, 0x1000, 9361, 9362, 9363, 9364, 9394, 9395, 9458, 9459, 10_000]);
         for count in counts.chain([0x10000, 0x10001, 0x10000 + CELLS, 0x10000 + CELLS + 1]) {
             self.read(&of_any(count, cell));
             self.read(&of_any(count, [0; 7]));
@@ -548,7 +554,7 @@ impl Drafts<'_> {
             for draft in some().iter().map(draft::write) {
                 self.read(&[&draft[..], &random].concat());
                 self.read(&[&draft[..], &vec![0; length]].concat());
-                self.read(&[&draft[..], &vec![0; length - draft.len()]].concat());
+                self.read(&[&draft[..], &vec![0; length.saturating_sub(draft.len())]].concat());
                 self.read(&[&draft[..11.min(draft.len())], &vec![0; length], &draft[11..]].concat());
             }
         }
@@ -572,7 +578,8 @@ fn there_and_back(composition: &Composition) -> [String; 2] {
     [Session::handed(composition).write_draft().line(), Session::unmade().read_draft(&draft).line()]
 }
 
-/// What one shift leaves and the next finds, and goes on with: each setting with no cells, document 01's examples, 32 cells.
+/// What one shift leaves and the next finds, and goes on with: each setting with no cells, document 01's examples, 32 and 96
+/// cells.
 fn kept() -> Vec<String> {
     let mut lines: Vec<String> = under_settings(&[]).iter().flat_map(there_and_back).collect();
     let examples = EXAMPLES.map(|keys| Session::new(Telex).typed(keys)).into_iter();
@@ -585,8 +592,8 @@ fn kept() -> Vec<String> {
         lines.push(session::on(Vni).typed("Uo7").read_draft(&draft).typed("as1").line());
         lines.push(Session::new(Vni).read_draft(&draft).write_draft().line());
     }
-    let full = Composition { cells: vec![plain('b'); CELLS], ..Composition::new(Telex) };
-    for composition in some().iter().chain([&full]) {
+    let full = [OLD_CELLS, CELLS].map(|count| Composition { cells: vec![plain('b'); count], ..Composition::new(Telex) });
+    for composition in some().iter().chain(&full) {
         lines.extend(there_and_back(composition));
         lines.push(Session::new(Vni).typed("xin").read_draft(&draft::write(composition)).typed("w").line());
     }
@@ -597,7 +604,7 @@ fn kept() -> Vec<String> {
 fn every_cell() -> Vec<String> {
     let of = |cells: &[Cell]| Composition { cells: cells.to_vec(), ..Composition::new(Telex) };
     let letters: Vec<Cell> = letters().map(plain).collect();
-    let mut lines: Vec<String> = letters.chunks(CELLS).flat_map(|cells| there_and_back(&of(cells))).collect();
+    let mut lines: Vec<String> = letters.chunks(OLD_CELLS).flat_map(|cells| there_and_back(&of(cells))).collect();
     let marked = MARKS.chars().flat_map(|mark| cells_of(mark, &[None, Some('j')]));
     let toned = TONE_KEYS.chars().flat_map(|tone| cells_of('\0', &[Some(tone)]));
     marked.chain(toned).for_each(|cell| lines.extend(there_and_back(&of(&[cell]))));
@@ -652,12 +659,15 @@ fn no_drafts() -> Vec<String> {
     for tone in b"\x01056FSJeghkqtwyz\x7f\x80\xf3" {
         bytes.push(of_one([0, 0, 0, 0x61, 0, *tone, 0]));
     }
-    for count in [CELLS, CELLS + 1, CELLS + 2, 36, 37, 100] {
-        bytes.push(of_any(count, cell_bytes(plain('a'))));
-        bytes.push(of_any(count, [0; 7]));
-    }
+    let of_count = |count| [of_any(count, cell_bytes(plain('a'))), of_any(count, [0; 7])];
+    bytes.extend([OLD_CELLS, OLD_CELLS + 1, OLD_CELLS + 2, 36, 37, 100].into_iter().flat_map(of_count));
     for byte in [0, 1, 0xff] {
-        bytes.extend([1, 15, 22, 239, 240, 246, 264].map(|length| vec![byte; length]));
+        bytes.extend([1, 15, 22, OLD_MOST, OLD_MOST + 1, OLD_MOST + 7, OLD_SIZE].map(|length| vec![byte; length]));
+    }
+    bytes.push(composition.bytes()[..OLD_SIZE].to_vec());
+    bytes.extend([CELLS - 1, CELLS, CELLS + 1, CELLS + 2, 109, 110].into_iter().flat_map(of_count));
+    for byte in [0, 1, 0xff] {
+        bytes.extend([MOST, MOST + 1, MOST + 7, SIZE].map(|length| vec![byte; length]));
     }
     bytes.push(composition.bytes().to_vec());
     let states = [Session::unmade, || Session::new(Telex).typed("xin"), || session::on(Vni).typed("Uo7")];
@@ -707,15 +717,15 @@ fn orders() -> Vec<String> {
     let mut lines = Vec::new();
     for (place, values) in POKES {
         for (turn, &value) in values.iter().enumerate() {
-            lines.push(session().poke(place, value).room(MOST * (turn % 2)).write_draft().line());
+            lines.push(session().poke(place, value).room(OLD_MOST * (turn % 2)).write_draft().line());
             lines.push(session().poke(place, value).read_draft(&draft[(place + turn) % 2..]).line());
         }
     }
-    for length in [0, 1, HEAD, HEAD + 8, SIZE - 1, SIZE, SIZE + 1, SIZE + 8] {
-        for room in [0, MOST] {
+    for length in [0, 1, HEAD, HEAD + 8, OLD_SIZE - 1, OLD_SIZE, OLD_SIZE + 1, OLD_SIZE + 8, SIZE - 1, SIZE, SIZE + 1, SIZE + 8] {
+        for room in [0, OLD_MOST, MOST] {
             lines.push(session().length(length).room(room).write_draft().line());
         }
-        for draft in [&draft[..], &draft[1..], &[], &of_any(CELLS + 1, [0; 7])] {
+        for draft in [&draft[..], &draft[1..], &[], &of_any(OLD_CELLS + 1, [0; 7]), &of_any(CELLS + 1, [0; 7])] {
             lines.push(session().length(length).read_draft(draft).line());
         }
     }
@@ -725,6 +735,6 @@ fn orders() -> Vec<String> {
 /// Compositions at random, from a seed of their own.
 fn at_random() -> Vec<String> {
     let mut random = Random(5);
-    let counts = [1, 2, 3, 5, 8, 13, 21, 31, 32];
+    let counts = [1, 2, 3, 5, 8, 13, 21, 31, 32, 33, 64, 65, 95, 96];
     counts.iter().flat_map(|&count| there_and_back(&random_of(&mut random, count))).collect()
 }

@@ -40,7 +40,7 @@ pub fn sign(number: u32) -> String {
     itself.map_or_else(|| code(number), String::from)
 }
 
-/// Letters in brackets, to be read at a glance: `[ dad ]`, `[ a U+002E s ]`, `[ b*32 ]`, `[ ]`.
+/// Letters in brackets, to be read at a glance: `[ dad ]`, `[ a U+002E s ]`, `[ b*96 ]`, `[ ]`.
 pub fn bracketed(letters: &[u32]) -> String {
     let mut text = "[".to_string();
     let mut joins = false;

@@ -2,6 +2,7 @@
 
 use crate::calls::{self, host, Left, GUARD, GUARD_COUNT};
 use crate::composer::codes;
+use crate::composition::CELLS;
 use crate::fixed::{bracketed, refused};
 use crate::oracle::{self, alphabet, listing, tone_on, upper, TONE_KEYS, WORD_LETTERS};
 use crate::report::{Random, Run};
@@ -69,12 +70,13 @@ pub fn compare(run: &mut Run) {
         next(run, &[first], ROOM);
         alphabet().iter().for_each(|&second| next(run, &[first, second], ROOM));
     }
-    run.begin("next_word: random words of up to 66 letters, numbers that are no letter among them");
+    run.begin("next_word: random words of up to 98 letters, numbers that are no letter among them");
     for _ in run.times(200_000) {
         let random = run.random();
         let mut word = random_word(random);
         if random.below(10) == 0 {
-            let length = random.below(WORD_LETTERS + 3);
+            let most = random.of(&[WORD_LETTERS + 3, CELLS + 3]);
+            let length = random.below(most);
             word.resize_with(length, || random.of(alphabet()));
         }
         if random.below(20) == 0 && !word.is_empty() {
@@ -123,7 +125,7 @@ pub fn fixed() -> Vec<String> {
     let mut random = Random(1);
     (0..200).for_each(|_| next(&random_word(&mut random), 8));
     (0..=9).for_each(|room| next(&codes("nghuyê"), room));
-    for (letter, length) in [(0x61, 64), (0x61, 65), (0x1ef9, 64), (0x1ef9, 65), (0x80, 64), (0x80, 65)] {
+    for (letter, length) in [(0x61, 64), (0x61, 65), (0x1ef9, 64), (0x1ef9, 65), (0x80, 64), (0x80, 65), (0x61, 96), (0x1ef9, 96)] {
         [0, 8].iter().for_each(|&room| next(&vec![letter; length], room));
     }
     [0x80, 0x300, 0x110000].iter().for_each(|&foreign| next(&[0x61, foreign], 0));

@@ -3,7 +3,7 @@
 
 use crate::calls::GUARD_BYTE;
 use crate::composer::{codes, handed, odd_cells, plain, random_composition, random_key};
-use crate::composition::{Call, Composition, Oracle, CELLS, HEAD, ROOM, SIZE};
+use crate::composition::{Call, Composition, Oracle, CELLS, HEAD, OLD_CELLS, OLD_SIZE, ROOM, SIZE};
 use crate::draft;
 use crate::engine::bamboo::spy::Cell;
 use crate::engine::bamboo::Mode;
@@ -188,9 +188,11 @@ pub const EXAMPLES: [&str; 17] = [
 fn examples() -> Vec<String> {
     let mut lines: Vec<String> = EXAMPLES.map(|keys| typed(Telex, keys)).to_vec();
     lines.push(typed(Vni, "pha6n 2"));
-    lines.push(typed(Telex, &"b".repeat(CELLS)));
-    lines.push(typed(Telex, &"b".repeat(CELLS + 1)));
-    lines.push(typed(Telex, &("b".repeat(CELLS - 1) + "aw")));
+    for cells in [CELLS, OLD_CELLS] {
+        lines.push(typed(Telex, &"b".repeat(cells)));
+        lines.push(typed(Telex, &"b".repeat(cells + 1)));
+        lines.push(typed(Telex, &("b".repeat(cells - 1) + "aw")));
+    }
     lines.push(Session::new(Telex).typed("uaw").undo('w', "uaw").line());
     lines.push(Session::new(Telex).typed("dd").undo('d', "dd").line());
     lines.push(Session::new(Telex).typed("dd").undo('d', "dd").named(Call::Text(ROOM)).line());
@@ -307,9 +309,11 @@ fn calls() -> Vec<String> {
     for letter in codes("aAsw Ăđ\0").into_iter().chain([0x80, 0xd800, 0x110000, 0x80000061]) {
         lines.push(start("a").named(Call::Literal(letter)).line());
         lines.push(start("a").keys(&[letter]).line());
-        lines.push(Session::handed(&handed(Telex, &[plain('b'); CELLS])).named(Call::Literal(letter)).line());
-        lines.push(Session::handed(&handed(Telex, &[plain('b'); CELLS])).keys(&[letter]).line());
-        lines.push(Session::handed(&handed(Vni, &[plain('a'); CELLS])).keys(&[letter]).room(0).keys(&[letter]).line());
+        for cells in [OLD_CELLS, CELLS] {
+            lines.push(Session::handed(&handed(Telex, &vec![plain('b'); cells])).named(Call::Literal(letter)).line());
+            lines.push(Session::handed(&handed(Telex, &vec![plain('b'); cells])).keys(&[letter]).line());
+            lines.push(Session::handed(&handed(Vni, &vec![plain('a'); cells])).keys(&[letter]).room(0).keys(&[letter]).line());
+        }
     }
     lines
 }
@@ -367,12 +371,13 @@ fn odd() -> Vec<String> {
 }
 
 /// Bytes to be poked into `POKED`, some of which make it unsound: a place, and values.
-pub const POKES: [(usize, &[u8]); 30] = [
-    (0, &[1, 2, 255]), (1, &[1, 2, 255]), (2, &[2, 4, 32, 33, 255]), (3, &[1, 2, 255]), (4, &[1]), (5, &[1]), (6, &[1]),
+pub const POKES: [(usize, &[u8]); 33] = [
+    (0, &[1, 2, 255]), (1, &[1, 2, 255]), (2, &[2, 4, 32, 33, 96, 97, 255]), (3, &[1, 2, 255]), (4, &[1]), (5, &[1]), (6, &[1]),
     (7, &[1, 255]),
     (8, &[0x62, 0x80]), (9, &[1, 2]), (10, &[1]), (11, &[1, 255]), (12, &[0x61, 1]), (13, &[1]), (14, &[1, 0x31, 0x36, 0x61, 0x73, 0x80]),
     (15, &[1, 2, 255]), (16, &[2, 4, 0xe2]), (17, &[0, 2]), (18, &[1]), (20, &[0, 2, 0xe2]), (21, &[0, 2]), (22, &[0, 0x6a, 0x7a]),
-    (23, &[0, 2]), (32, &[1]), (36, &[1]), (38, &[0x73]), (39, &[1]), (SIZE - 8, &[0x61]), (SIZE - 2, &[0x73]), (SIZE - 1, &[1]),
+    (23, &[0, 2]), (32, &[1]), (36, &[1]), (38, &[0x73]), (39, &[1]), (OLD_SIZE - 8, &[0x61]), (OLD_SIZE - 2, &[0x73]),
+    (OLD_SIZE - 1, &[1]), (SIZE - 8, &[0x61]), (SIZE - 2, &[0x73]), (SIZE - 1, &[1]),
 ];
 pub const POKED: [Cell; 3] = [
     Cell { base: 'a', mark: None, tone: None, upper: false },
@@ -392,7 +397,7 @@ fn unsound() -> Vec<String> {
             lines.push(session().poke(place, value).typed("a").line());
         }
     }
-    for length in [0, 1, 2, 3, HEAD, HEAD + 8, SIZE - 1, SIZE + 1, SIZE + 8] {
+    for length in [0, 1, 2, 3, HEAD, HEAD + 8, OLD_SIZE - 1, OLD_SIZE, OLD_SIZE + 1, OLD_SIZE + 8, SIZE - 1, SIZE + 1, SIZE + 8] {
         let changes = [
             Call::Text(ROOM), Call::RemoveLast(ROOM), Call::Reset, Call::New(0), Call::SetMethod(0), Call::SetMode(0),
             Call::SetCapitals(0), Call::Literal('a'.into()), Call::Key('a'.into(), ROOM),
@@ -405,6 +410,13 @@ fn unsound() -> Vec<String> {
             });
         }
     }
+    for cell in [0, OLD_CELLS - 1, OLD_CELLS, CELLS - 1] {
+        for (place, value) in [(0, 0x80), (6, b'z'), (7, 2)] {
+            let full = Session::handed(&handed(Telex, &[plain('b'); CELLS]));
+            lines.push(full.poke(HEAD + 8 * cell + place, value).named(Call::CheckComposition).line());
+        }
+    }
+    lines.push(session().length(OLD_SIZE - 1).undo('\u{80}', &"b".repeat(65)).line());
     lines.push(session().length(SIZE - 1).undo('\u{80}', &"b".repeat(65)).line());
     lines.push(session().poke(0, 9).named(Call::New(1)).line());
     lines.push(session().undo('\u{80}', &"b".repeat(65)).line());

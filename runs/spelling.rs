@@ -1,7 +1,8 @@
 //! Cut and verdict against spelling.rs: words of every kind, accepted, nearly so, and not at all.
 
 use crate::calls::{host, Place, Places};
-use crate::composer::codes;
+use crate::composer::{codes, random_composition};
+use crate::composition::{Call, Oracle, CELLS, ROOM};
 use crate::engine::spelling::spy;
 use crate::fixed::{bracketed, refused, yes_no};
 use crate::oracle::{self, alphabet, listing, lower, tone_on, upper, TONE_KEYS, WORD_LETTERS};
@@ -31,8 +32,8 @@ pub fn compare(run: &mut Run) {
         let random_word = random_word(run.random());
         word(run, &random_word);
     }
-    run.begin("cut, verdict: 60 to 70 letters, and a number that is no letter at each place");
-    for length in (60..=70).chain([200]) {
+    run.begin("cut, verdict: 60 to 100 letters, and a number that is no letter at each place");
+    for length in (60..=100).chain([200]) {
         for filler in codes("abq ạ") {
             word(run, &vec![filler; length]);
         }
@@ -45,6 +46,13 @@ pub fn compare(run: &mut Run) {
                 word(run, &letters);
             }
         }
+    }
+    run.begin("cut, verdict: the texts of random cells, 0 to 96 of them");
+    let mut oracle = Oracle::new();
+    for turn in run.times(20_000) {
+        let composition = random_composition(run.random(), turn as usize % (CELLS + 1));
+        let shown = oracle.left(&composition.bytes(), Call::Text(ROOM));
+        word(run, shown.text().expect("a sound composition has a text"));
     }
 }
 
@@ -144,7 +152,7 @@ pub fn fixed() -> Vec<String> {
     }
     let mut random = Random(1);
     words.extend((0..300).map(|_| random_word(&mut random)));
-    words.extend([64, 65].iter().flat_map(|&length| codes("bạ").into_iter().map(move |letter| vec![letter; length])));
+    words.extend([64, 65, 96, 97].iter().flat_map(|&length| codes("bạ").into_iter().map(move |letter| vec![letter; length])));
     words.extend(OUTSIDE.iter().flat_map(|&foreign| [vec![foreign], vec![0x62, foreign, 0x63], vec![foreign; 65]]));
     let mut lines = Vec::new();
     for word in words {

@@ -183,8 +183,8 @@ fn writer(run: &mut Run) {
         write(run, &[number], 4);
         write(run, &[0x1ea1, number], 8);
     }
-    run.begin("write_utf8: up to 70 letters, room at each size");
-    for length in (0..=70).chain([200]) {
+    run.begin("write_utf8: up to 100 letters, room at each size");
+    for length in (0..=100).chain([200]) {
         for _ in run.times(2) {
             let letters = random_letters(run.random(), length);
             (0..=3 * length + 2).for_each(|room| write(run, &letters, room));
@@ -260,7 +260,7 @@ pub fn fixed() -> Vec<String> {
         write(&[foreign], 4);
         write(&[0x61, foreign, 0x1ea1], 0);
     }
-    for length in [63, 64, 65] {
+    for length in [63, 64, 65, 96] {
         for letter in [0x61, 0xe0, 0x1ea1, 0x80] {
             [190, 191, 192, 193].iter().for_each(|&room| write(&vec![letter; length], room));
         }

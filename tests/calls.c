@@ -9,8 +9,11 @@
 #include "pasdrongel.h"
 
 #define GUARD 0xa5
-#define MOST 512
+#define MOST (2 * STATE)
 #define STATE PASDRONGEL_COMPOSITION_BYTES
+#define OLD_STATE 264         /* the bytes of a composition in version 0.6.0, and its cells */
+#define OLD_CELLS 32
+#define CELLS PASDRONGEL_CELLS
 #define HEAD 8                /* where the cells begin, as docs/BYTES.md has it */
 #define FOREIGN 0xc4u /* a with diaeresis, a capital */
 
@@ -576,8 +579,14 @@ static void soundness_facts(void)
     unsound_at(0, 2);
     unsound_at(0, 0xff);
     unsound_at(1, 2);
-    unsound_at(2, 33);
+    unsound_at(2, CELLS + 1);
     unsound_at(2, 0xff);
+    for (i = 2; i < 256; i++) {               /* each count up to the last cell, where the cells between are U+0000 */
+        state[2] = (uint8_t)i;
+        FACT(check_composition() == (i <= CELLS ? PASDRONGEL_DONE : PASDRONGEL_REFUSED_UNSOUND));
+        FACT(count_cells() == (i <= CELLS ? PASDRONGEL_DONE : PASDRONGEL_REFUSED_UNSOUND) && (i > CELLS || count == i));
+    }
+    state[2] = 2;
     unsound_at(2, 1);                         /* the second cell stands past the count */
     unsound_at(3, 2);
     unsound_at(3, 0x80);
@@ -609,6 +618,19 @@ static void soundness_facts(void)
         FACT(reset() == PASDRONGEL_REFUSED_UNSOUND);
         state[i] = old;
     }
+    /* and so is each cell up to the last tested: its base, its mark, its tone and its flag */
+    fresh(PASDRONGEL_TELEX);
+    while (state[2] < CELLS)
+        FACT(literal('b') == PASDRONGEL_DONE);
+    for (i = 0; i < CELLS; i++)
+        for (j = 0; j < 8; j++) {
+            uint8_t old = cell(i)[j];
+            cell(i)[j] = 0x80;
+            FACT(check_composition() == PASDRONGEL_REFUSED_UNSOUND);
+            FACT(text(PASDRONGEL_TEXT_ROOM) == PASDRONGEL_REFUSED_UNSOUND);
+            cell(i)[j] = old;
+        }
+    FACT(check_composition() == PASDRONGEL_DONE);
     /* sound cells that no key makes: a capital with no flag, a flag on U+0000, every tone on a consonant, every mark's
      * letter with no mark and with it */
     for (i = 0; tones[i] != '\0'; i++) {
@@ -627,7 +649,7 @@ static void soundness_facts(void)
             cell(0)[4] = (uint8_t)(j * mark), cell(0)[5] = (uint8_t)(j * mark >> 8);
             FACT(check_composition() == PASDRONGEL_DONE && shows(marks[i]));
         }
-    /* new takes bytes of any content, but 264 of them and a method */
+    /* new takes bytes of any content, but so many of them and a method */
     memset(state, GUARD, sizeof state);
     for (state_size = STATE - 1; state_size <= STATE + 1; state_size += 2)
         FACT(start(PASDRONGEL_TELEX) == PASDRONGEL_REFUSED_UNSOUND);
@@ -640,6 +662,29 @@ static void soundness_facts(void)
     FACT(start(PASDRONGEL_VNI) == PASDRONGEL_DONE && state[0] == 1 && shows(""));
     for (i = 1; i < STATE; i++)
         FACT(state[i] == 0);
+}
+
+/* A host that was compiled for version 0.6.0 lends 264 bytes, and has made them as that version does: the same head, and 32 cells.
+ * Every call that is given them refuses them by 10, and so do the two that make a composition, whatever stands there. */
+static void old_bytes_facts(void)
+{
+    uint8_t draft[MOST];
+    uint32_t method;
+    size_t i, length;
+    for (method = 0; method < 2; method++)
+        for (i = 0; i <= OLD_CELLS; i++) {
+            fresh(method);
+            while (state[2] < i)
+                FACT(literal(letter_of("Ấ")) == PASDRONGEL_DONE);
+            FACT(write_draft(PASDRONGEL_DRAFT_ROOM) == PASDRONGEL_DONE);
+            length = count;
+            memcpy(draft, bytes, length);
+            state_size = OLD_STATE;
+            unsound();
+            FACT(start(method) == PASDRONGEL_REFUSED_UNSOUND && read_draft(draft, length) == PASDRONGEL_REFUSED_UNSOUND);
+            state_size = STATE;
+            FACT(check_composition() == PASDRONGEL_DONE && read_draft(draft, length) == PASDRONGEL_DONE && state[2] == i);
+        }
 }
 
 /* Are these the numbers of the composition? */
@@ -714,7 +759,7 @@ static void key_facts(void)
     uint32_t i;
     /* the ladder of the key: 10, 1, 2, 3 */
     fresh(PASDRONGEL_TELEX);
-    for (i = 0; i < 32; i++)
+    for (i = 0; i < CELLS; i++)
         FACT(key('b', PASDRONGEL_TEXT_ROOM) == PASDRONGEL_DONE && count == i + 1);
     FACT(text(PASDRONGEL_TEXT_ROOM) == PASDRONGEL_DONE && count == PASDRONGEL_TEXT_ROOM); /* the room that always suffices */
     FACT(text(PASDRONGEL_TEXT_ROOM - 1) == PASDRONGEL_REFUSED_SHORT);
@@ -724,23 +769,32 @@ static void key_facts(void)
     FACT(key(FOREIGN, 0) == PASDRONGEL_REFUSED_FOREIGN);
     FACT(key('b', 0) == PASDRONGEL_REFUSED_FULL);
     FACT(key('b', PASDRONGEL_TEXT_ROOM) == PASDRONGEL_REFUSED_FULL);
-    FACT(remove_last(PASDRONGEL_TEXT_ROOM) == PASDRONGEL_DONE && count == 31);
-    FACT(key('d', 31) == PASDRONGEL_REFUSED_SHORT);
-    FACT(key('d', 32) == PASDRONGEL_DONE && count == 32);
-    /* a mark key on 32 cells works, and so does a tone key; each still needs the room */
-    FACT(key('d', 31) == PASDRONGEL_REFUSED_SHORT);
-    FACT(key('d', 32) == PASDRONGEL_DONE && letters[31] == letter_of("đ"));
-    FACT(remove_last(31) == PASDRONGEL_DONE);
-    FACT(key('a', 32) == PASDRONGEL_DONE && key('j', 32) == PASDRONGEL_DONE && letters[31] == letter_of("ạ"));
+    FACT(remove_last(CELLS - 2) == PASDRONGEL_REFUSED_SHORT);
+    FACT(remove_last(PASDRONGEL_TEXT_ROOM) == PASDRONGEL_DONE && count == CELLS - 1);
+    FACT(key('d', CELLS - 1) == PASDRONGEL_REFUSED_SHORT);
+    FACT(key('d', CELLS) == PASDRONGEL_DONE && count == CELLS);
+    /* a mark key on 96 cells works, and so does a tone key; each still needs the room */
+    FACT(key('d', CELLS - 1) == PASDRONGEL_REFUSED_SHORT);
+    FACT(key('d', CELLS) == PASDRONGEL_DONE && letters[CELLS - 1] == letter_of("đ"));
+    FACT(remove_last(CELLS - 1) == PASDRONGEL_DONE);
+    FACT(key('a', CELLS) == PASDRONGEL_DONE && key('j', CELLS) == PASDRONGEL_DONE && letters[CELLS - 1] == letter_of("ạ"));
     FACT(key('j', 0) == PASDRONGEL_REFUSED_SHORT);
     FACT(key('b', 0) == PASDRONGEL_REFUSED_FULL);
+    FACT(key('w', CELLS) == PASDRONGEL_DONE && letters[CELLS - 1] == letter_of("ặ"));
+    /* and so do the keys of the horned pair */
+    fresh(PASDRONGEL_VNI);
+    for (i = 0; i < CELLS; i++)
+        FACT(key(i == CELLS - 2 ? 'u' : i == CELLS - 1 ? 'o' : 'b', PASDRONGEL_TEXT_ROOM) == PASDRONGEL_DONE);
+    FACT(key('7', CELLS) == PASDRONGEL_DONE && letters[CELLS - 2] == letter_of("ư") && letters[CELLS - 1] == letter_of("ơ"));
+    FACT(key('2', CELLS) == PASDRONGEL_DONE && letters[CELLS - 1] == letter_of("ờ") && count == CELLS);
+    FACT(key('n', CELLS) == PASDRONGEL_REFUSED_FULL);
     /* English: the letter passes through, nothing changes; no 2, and 3 where one letter has no room */
     FACT(set_mode(PASDRONGEL_ENGLISH) == PASDRONGEL_DONE);
-    for (i = 0; i < 32; i++)
+    for (i = 0; i < CELLS; i++)
         FACT(literal('x') == PASDRONGEL_DONE);
     FACT(key(FOREIGN, 0) == PASDRONGEL_REFUSED_FOREIGN);
     FACT(key('s', 0) == PASDRONGEL_REFUSED_SHORT);
-    FACT(key('s', 1) == PASDRONGEL_DONE && wrote("s") && state[2] == 32);
+    FACT(key('s', 1) == PASDRONGEL_DONE && wrote("s") && state[2] == CELLS);
     FACT(key('S', 9) == PASDRONGEL_DONE && wrote("S"));
 }
 
@@ -753,14 +807,14 @@ static void change_facts(void)
     FACT(literal('s') == PASDRONGEL_DONE && shows("as"));
     FACT(literal(letter_of("Ấ")) == PASDRONGEL_DONE && shows("asẤ") && cell(2)[7] == 1);
     FACT(set_mode(PASDRONGEL_ENGLISH) == PASDRONGEL_DONE && shows(""));
-    for (i = 0; i < 32; i++)
+    for (i = 0; i < CELLS; i++)
         FACT(literal('a') == PASDRONGEL_DONE);
     state[1] = 7;
     FACT(literal(FOREIGN) == PASDRONGEL_REFUSED_UNSOUND);
     state[1] = PASDRONGEL_ENGLISH;
     FACT(literal(FOREIGN) == PASDRONGEL_REFUSED_FOREIGN);
     FACT(literal('a') == PASDRONGEL_REFUSED_FULL);
-    FACT(set_mode(PASDRONGEL_VIETNAMESE) == PASDRONGEL_DONE && state[2] == 32);
+    FACT(set_mode(PASDRONGEL_VIETNAMESE) == PASDRONGEL_DONE && state[2] == CELLS);
 
     /* the ladder of the text: 10, 3 */
     FACT(types(PASDRONGEL_TELEX, "tieens", "tiến"));
@@ -990,7 +1044,7 @@ static void undo_facts(void)
         raw[i] = 'b';
     raw[63] = FOREIGN;
     FACT(types(PASDRONGEL_TELEX, "as", "á"));
-    state[2] = 33;
+    state[2] = CELLS + 1;
     FACT(undo_raw(FOREIGN, raw, PASDRONGEL_WORD_LETTERS + 1) == PASDRONGEL_REFUSED_UNSOUND);
     state[2] = 1;
     FACT(undo_raw(FOREIGN, raw, PASDRONGEL_WORD_LETTERS + 1) == PASDRONGEL_REFUSED_LONG);
@@ -1007,6 +1061,22 @@ static void undo_facts(void)
     FACT(undo_raw('1', raw, PASDRONGEL_WORD_LETTERS + 1) == PASDRONGEL_REFUSED_LONG);
     FACT(undo_raw('1', raw, PASDRONGEL_WORD_LETTERS) == PASDRONGEL_REFUSED_FOREIGN);
     FACT(undo('1', "a1") == PASDRONGEL_REFUSED_NO_UNDO && shows("á"));
+    /* on 96 cells, with a raw string of the last keys: the mark and the tone, of the last cell and of the first */
+    for (i = 0; i < sizeof raw / sizeof *raw; i++)
+        raw[i] = 'b';
+    fresh(PASDRONGEL_TELEX);
+    type("dd");
+    for (i = 2; i < CELLS; i++)
+        FACT(key('b', PASDRONGEL_TEXT_ROOM) == PASDRONGEL_DONE);
+    type("as");
+    FACT(state[2] == CELLS && letters[0] == letter_of("đ") && letters[CELLS - 1] == letter_of("á"));
+    raw[0] = raw[1] = 'd', raw[62] = 'a', raw[63] = 's';
+    FACT(undo_raw('s', raw, PASDRONGEL_WORD_LETTERS + 1) == PASDRONGEL_REFUSED_LONG);
+    FACT(undo_raw('s', raw, PASDRONGEL_WORD_LETTERS) == PASDRONGEL_DONE && number == PASDRONGEL_APPEND);
+    FACT(literal('s') == PASDRONGEL_REFUSED_FULL && text(CELLS) == PASDRONGEL_DONE && letters[CELLS - 1] == 'a');
+    FACT(undo_raw('d', raw, PASDRONGEL_WORD_LETTERS) == PASDRONGEL_REFUSED_NO_UNDO); /* an a stands after its keys */
+    raw[62] = 'b';
+    FACT(undo_raw('d', raw, PASDRONGEL_WORD_LETTERS) == PASDRONGEL_DONE && text(CELLS) == PASDRONGEL_DONE && letters[0] == 'd');
 }
 
 /* ---- drafts, by what request 2026-02 says of them */
@@ -1081,7 +1151,7 @@ static int composition_of(const uint8_t *draft, size_t length, uint8_t *composit
         int marked = 0;
         for (j = 0; j < sizeof marks / sizeof *marks; j++)
             marked = marked || base == letter_of(marks[j]);
-        if (check_letter(base) != PASDRONGEL_DONE || from[4] > marked || from[6] > 1)
+        if (PASDRONGEL_REFUSAL(pasdrongel_check_letter(base)) != PASDRONGEL_DONE || from[4] > marked || from[6] > 1)
             return 0;
         if (from[5] != 0 && memchr("fsrxj12345", from[5], 10) == NULL)
             return 0;
@@ -1286,7 +1356,7 @@ static void draft_facts(void)
     FACT(length == PASDRONGEL_DRAFT_ROOM);
     memcpy(draft, bytes, length);
     changed(draft, length, 0);
-    /* a cell more, and so on past a length of one byte: its fields are in order, and no composition has so many cells */
+    /* a cell more, and so on, twice as many: its fields are in order, and no composition has so many cells */
     for (i = PASDRONGEL_CELLS + 1; FRAME + CELL * i <= MOST; i++) {
         memmove(draft + 11 + CELL, draft + 11, FRAME + CELL * i - 11 - CELL);
         draft[9] = (uint8_t)(CELL * i / 256), draft[10] = (uint8_t)(CELL * i % 256);
@@ -1373,6 +1443,38 @@ static void speller_facts(void)
     word[63] = 'a';
     FACT(cut_letters(word, PASDRONGEL_WORD_LETTERS) == PASDRONGEL_DONE && count == 0 && place == PASDRONGEL_WORD_LETTERS);
     FACT(judge_letters(word, PASDRONGEL_WORD_LETTERS) == PASDRONGEL_DONE && number == 0);
+}
+
+/* A text may have more letters than a word: up to 64 it is taken as one, and a longer text is refused by 6 by each call that takes
+ * letters. Its UTF-8 comes in pieces, whatever the cut. */
+static void long_text_facts(void)
+{
+    static const char *const turns[] = {"ỹ", "đ", "a"};
+    uint32_t shown[CELLS];
+    uint8_t spelt_out[3 * CELLS], pieces[3 * CELLS];
+    uint32_t refused;
+    size_t i, at, size = 0;
+    fresh(PASDRONGEL_TELEX);
+    for (i = 1; i <= CELLS; i++) {
+        const char *letter = turns[i % 3];
+        memcpy(spelt_out + size, letter, strlen(letter));
+        size += strlen(letter);
+        FACT(literal(letter_of(letter)) == PASDRONGEL_DONE && text(i) == PASDRONGEL_DONE && count == i);
+        memcpy(shown, letters, i * sizeof *shown);
+        refused = i <= PASDRONGEL_WORD_LETTERS ? PASDRONGEL_DONE : PASDRONGEL_REFUSED_LONG;
+        FACT(judge_letters(shown, i) == refused && cut_letters(shown, i) == refused);
+        FACT(next_letters(shown, i, PASDRONGEL_LISTED_ROOM) == refused);
+        FACT(write_utf8(shown, i, PASDRONGEL_WRITE_ROOM) == refused);
+        FACT(refused != PASDRONGEL_DONE || (count == size && memcmp(bytes, spelt_out, size) == 0));
+    }
+    for (at = CELLS - PASDRONGEL_WORD_LETTERS; at <= PASDRONGEL_WORD_LETTERS; at++) {
+        FACT(write_utf8(shown, at, PASDRONGEL_WRITE_ROOM) == PASDRONGEL_DONE);
+        i = count;
+        memcpy(pieces, bytes, i);
+        FACT(write_utf8(shown + at, CELLS - at, PASDRONGEL_WRITE_ROOM) == PASDRONGEL_DONE && i + count == size);
+        memcpy(pieces + i, bytes, size - i);
+        FACT(memcmp(pieces, spelt_out, size) == 0);
+    }
 }
 
 /* ---- note lines, by what request 2026-04 says of them */
@@ -1896,6 +1998,7 @@ int main(void)
     letters_facts();
     utf8_facts();
     soundness_facts();
+    old_bytes_facts();
     number_facts();
     example_facts();
     key_facts();
@@ -1905,6 +2008,7 @@ int main(void)
     draft_facts();
     method_facts();
     speller_facts();
+    long_text_facts();
     line_facts();
     line_part_facts();
     line_state_facts();

@@ -7,6 +7,7 @@
 
 #define STATE PASDRONGEL_COMPOSITION_BYTES
 #define HEAD 8 /* where the cells begin */
+#define OLD_CELLS 32 /* the most cells up to version 0.6.0 */
 #define WRAPPED(result, name, ...) result __real_pasdrongel_##name(__VA_ARGS__); result __wrap_pasdrongel_##name(__VA_ARGS__)
 #define WRAP(name, ...) WRAPPED(uint32_t, name, __VA_ARGS__)
 #define WRAP_SIZE(name, ...) WRAPPED(size_t, name, __VA_ARGS__)
@@ -80,6 +81,8 @@ uint32_t __wrap_pasdrongel_key(uint8_t *state, size_t size, uint32_t key, uint32
     uint32_t refusal;
     if (size == STATE)
         memcpy(before, state, STATE);
+    if (fault(97) && size == STATE && state[2] == PASDRONGEL_CELLS - 1)
+        return PASDRONGEL_REFUSED_FULL; /* the last cell is not used */
     refusal = __real_pasdrongel_key(state, size, key, out, room, count);
     if (fault(1) && refusal == PASDRONGEL_DONE && *count < room)
         out[*count] = 0;    /* the answer is ended by a 0 */
@@ -99,7 +102,10 @@ uint32_t __wrap_pasdrongel_key(uint8_t *state, size_t size, uint32_t key, uint32
 
 uint32_t __wrap_pasdrongel_literal(uint8_t *state, size_t size, uint32_t letter)
 {
-    uint32_t refusal = __real_pasdrongel_literal(state, size, letter);
+    uint32_t refusal;
+    if (fault(98) && size == STATE && state[2] == OLD_CELLS)
+        return PASDRONGEL_REFUSED_FULL; /* by the limit that was */
+    refusal = __real_pasdrongel_literal(state, size, letter);
     if (fault(5) && refusal == PASDRONGEL_REFUSED_FOREIGN)
         state[2]++;         /* a refusal that counts its cell */
     if (fault(6) && refusal == PASDRONGEL_REFUSED_FULL)
@@ -110,7 +116,7 @@ uint32_t __wrap_pasdrongel_literal(uint8_t *state, size_t size, uint32_t letter)
 uint32_t __wrap_pasdrongel_remove_last(uint8_t *state, size_t size, uint32_t *out, size_t room, size_t *count)
 {
     uint32_t refusal = __real_pasdrongel_remove_last(state, size, out, room, count);
-    if (fault(7) && refusal == PASDRONGEL_DONE && state[2] < 32)
+    if (fault(7) && refusal == PASDRONGEL_DONE && state[2] < PASDRONGEL_CELLS)
         state[HEAD + 8 * state[2]] = 'a'; /* the cell is not blank: unsound */
     if (fault(8) && refusal == PASDRONGEL_DONE && *count > 0)
         out[0] = 'a';       /* not the text of what is left */
@@ -128,6 +134,8 @@ uint32_t __wrap_pasdrongel_text(const uint8_t *state, size_t size, uint32_t *out
     if (fault(11) && out == NULL)
         return PASDRONGEL_REFUSED_SHORT; /* asks where an empty output stands */
     refusal = __real_pasdrongel_text(state, size, out, room, count);
+    if (fault(99) && refusal == PASDRONGEL_DONE && *count > OLD_CELLS)
+        *count = OLD_CELLS; /* the text up to the limit that was */
     spoil(refusal, state, out, count);
     return refusal;
 }
@@ -136,7 +144,7 @@ uint32_t __wrap_pasdrongel_check_composition(const uint8_t *state, size_t size)
 {
     if (fault(12) && state[size] == 7)
         return PASDRONGEL_REFUSED_UNSOUND; /* reads past what is lent */
-    if (fault(13) && size == STATE && state[2] == 33)
+    if (fault(13) && size == STATE && state[2] == PASDRONGEL_CELLS + 1)
         return PASDRONGEL_DONE;
     if (fault(14) && size == STATE && state[HEAD - 1] != 0)
         return PASDRONGEL_DONE; /* a reserved byte says something */
@@ -170,7 +178,7 @@ uint32_t __wrap_pasdrongel_mode(const uint8_t *state, size_t size, uint32_t *mod
     uint32_t refusal = __real_pasdrongel_mode(state, size, mode);
     if (fault(19) && refusal == PASDRONGEL_DONE)
         *mode = 1 - *mode;
-    if (fault(20) && size == STATE && state[0] <= 1 && state[1] <= 1 && state[2] <= 32) {
+    if (fault(20) && size == STATE && state[0] <= 1 && state[1] <= 1 && state[2] <= PASDRONGEL_CELLS) {
         *mode = state[1]; /* the cells are not tested */
         return PASDRONGEL_DONE;
     }
@@ -335,6 +343,8 @@ uint32_t __wrap_pasdrongel_read_draft(const uint8_t *draft, size_t length, uint8
         return PASDRONGEL_REFUSED_UNSOUND; /* asks where an empty draft stands */
     if (fault(59) && draft[length] == 7)
         return PASDRONGEL_REFUSED_NO_DRAFT; /* reads past what is lent */
+    if (fault(100) && size == STATE && length > 15 + CELL * OLD_CELLS)
+        return PASDRONGEL_REFUSED_NO_DRAFT; /* reads drafts up to the limit that was */
     length = length == 0 ? 0 : taken_for(draft, length, other);
     refusal = __real_pasdrongel_read_draft(length == 0 ? draft : other, length, state, size);
     if (fault(60) && refusal == PASDRONGEL_REFUSED_NO_DRAFT)

@@ -12,6 +12,7 @@
  *   the setting of capitals and the count are those bytes, and a separator is one of twelve letters.
  * - Capitals are off in a new composition; the call that sets them changes nothing else, and no other call changes them. With
  *   the other setting every call does the same, but for the capitals that it shows and a flag that it takes (hold_capitals).
+ * - A letter is refused by 2 where all cells are used, and not before.
  * - A composition is written as the one draft that it has, and that draft is read as this composition, whatever stood there.
  *   Bytes are refused by 11 exactly where they are no draft; what is read of others is written back as the same bytes.
  * - A note line is told and refused as a count of its words says that is made here, by the verdict; in parts it is told and refused
@@ -22,7 +23,7 @@
  * - A refusal by 3 is one for want of room: with enough of it the answer is longer than the room was. And an answer with
  *   room to spare is refused by 3 where the room is one less than the answer.
  * At the end every refusal of every call must have been met, and each of its buffers as NULL, so that the run says something
- * of each.
+ * of each; and keys alone must have come to where all cells are used.
  *
  * With PAINTED it makes a fifth as many calls, each on a painted stack, and says instead how much of it each has touched. */
 #include "lent.h"
@@ -31,8 +32,9 @@
 #define STATE PASDRONGEL_COMPOSITION_BYTES
 #define HEAD 8 /* where the cells begin */
 #define MOST_STATE (2 * STATE)
-#define MOST_INPUT 300
-#define MOST_ROOM 300
+#define MOST_INPUT 800 /* more than a draft of a few cells too many */
+#define MOST_ROOM 720 /* more than PASDRONGEL_DRAFT_ROOM */
+#define CELLS PASDRONGEL_CELLS
 #define LINE PASDRONGEL_LINE_LETTERS
 #define LINE_STATE PASDRONGEL_LINE_STATE_BYTES
 #define MOST_LINE (LINE + 8)
@@ -264,9 +266,9 @@ static int is_sound(const uint8_t *state, size_t size)
 {
     static const uint8_t blank[8];
     size_t i;
-    if (size != STATE || state[0] > 1 || state[1] > 1 || state[2] > 32 || state[3] > 1 || memcmp(state + 4, blank, HEAD - 4) != 0)
+    if (size != STATE || state[0] > 1 || state[1] > 1 || state[2] > CELLS || state[3] > 1 || memcmp(state + 4, blank, HEAD - 4) != 0)
         return 0;
-    for (i = 0; i < 32; i++)
+    for (i = 0; i < CELLS; i++)
         if (i < state[2] ? !is_cell(state + HEAD + 8 * i) : memcmp(state + HEAD + 8 * i, blank, 8) != 0)
             return 0;
     return 1;
@@ -603,6 +605,18 @@ static void hold_setting(const struct kind *kind, const struct given *g, const s
         fault(kind, "it changes more than the setting of capitals");
 }
 
+/* A letter that is appended finds a cell, and is refused by 2 where there is none; a key that appends none is not. */
+static void hold_full(const struct kind *kind, const struct given *g, const struct left *left)
+{
+    int full = g->state[2] == CELLS, refused = left->refusal == PASDRONGEL_REFUSED_FULL;
+    if ((kind->call != call_key && kind->call != call_literal) || !is_sound(g->state, g->state_size))
+        return;
+    if (refused && (!full || (kind->call == call_key && g->state[1] == PASDRONGEL_ENGLISH)))
+        fault(kind, "it refuses by 2 where a cell is left, or none is needed");
+    if (full && kind->call == call_literal && left->refusal == PASDRONGEL_DONE)
+        fault(kind, "it takes a letter that has no cell");
+}
+
 /* What is written of a sound composition is its draft, and is read back as it, where something else stood. */
 static void hold_written(const struct kind *kind, const struct given *g, const struct left *left)
 {
@@ -825,6 +839,7 @@ static void hold(const struct kind *kind, const struct given *g, struct left *le
     hold_answer(kind, g, left);
     hold_number(kind, g, left);
     hold_setting(kind, g, left);
+    hold_full(kind, g, left);
     hold_draft(kind, g, left);
     hold_line(kind, g, left);
     make_call(kind, g, LOW, 0x5a, &again);
@@ -877,7 +892,7 @@ static uint32_t next_key(void)
 
 static size_t some_room(void)
 {
-    return one_in(8) ? below(4) : one_in(4) ? below(40) : 32 + below(MOST_ROOM - 31);
+    return one_in(8) ? below(4) : one_in(4) ? below(CELLS + 8) : CELLS + below(MOST_ROOM - CELLS + 1);
 }
 
 static void spell(struct given *g, uint32_t x)
@@ -902,7 +917,7 @@ static void spell(struct given *g, uint32_t x)
 /* Bytes: letters, now and then another code point, a changed byte, the end cut off. */
 static void some_bytes(struct given *g)
 {
-    size_t most = one_in(4) ? 250 + below(MOST_INPUT - 250) : one_in(2) ? below(12) : below(250);
+    size_t most = one_in(4) ? 250 + below(50) : one_in(2) ? below(12) : below(250);
     g->length = 0;
     while (g->length + 4 <= most)
         spell(g, one_in(300) ? any_number() : any_letter());
@@ -918,7 +933,7 @@ static void some_bytes(struct given *g)
 static void some_letters(struct given *g)
 {
     size_t i;
-    g->length = one_in(6) ? 60 + below(10) : one_in(20) ? below(MOST_INPUT + 1) : below(10);
+    g->length = one_in(6) ? 60 + below(10) : one_in(20) ? below(301) : below(10);
     for (i = 0; i < g->length; i++)
         g->input[i] = one_in(2) ? any_letter() : a_key();
     if (g->length > 0 && one_in(10))
@@ -991,7 +1006,7 @@ static void remember(uint32_t key)
  * value at some edge. */
 static void some_state(struct given *g, uint32_t rarity)
 {
-    static const uint8_t edges[] = {0, 1, 2, 31, 32, 33, 'a', 'f', 'z', 0x80, 0xff};
+    static const uint8_t edges[] = {0, 1, 2, 31, 32, 33, 95, 96, 97, 'f', 'z', 0x80, 0xff};
     uint32_t in_use = HEAD + 8 * composition[2], place;
     memset(g->state, 0, sizeof g->state);
     memcpy(g->state, composition, STATE);
@@ -1004,7 +1019,7 @@ static void some_state(struct given *g, uint32_t rarity)
         place = one_in(3) ? below(one_in(4) ? HEAD : 4) : below(one_in(4) ? STATE : in_use);
         g->state[place] = one_in(2) ? edges[below(sizeof edges)] : (uint8_t)below(256);
         if (place == 2 && one_in(2))
-            g->state[place] = (uint8_t)(31 + below(3)); /* the count, at its own edge */
+            g->state[place] = (uint8_t)(CELLS - 1 + below(3)); /* the count, at its own edge */
         if (place == 3 && one_in(2))
             g->state[place] = (uint8_t)(1 + below(2)); /* and capitals */
     }
@@ -1047,7 +1062,7 @@ static void odd_composition(uint8_t *state)
 {
     static const uint16_t marks[] = {0x103, 0xe2, 0xea, 0xf4, 0x1a1, 0x1b0, 0x111};
     static const char tones[] = "fsrxj12345";
-    size_t i, n = one_in(4) ? 30 + below(3) : below(12);
+    size_t i, n = one_in(4) ? CELLS - 2 + below(3) : one_in(4) ? below(CELLS + 1) : below(12);
     memset(state, 0, STATE);
     state[0] = (uint8_t)below(2), state[1] = (uint8_t)one_in(8), state[2] = (uint8_t)n, state[3] = (uint8_t)below(2);
     for (i = 0; i < n; i++) {
@@ -1085,7 +1100,7 @@ static void some_draft(struct given *g)
         memmove(draft + at, draft + at + 1, --length - at);
         break;
     case 3: /* the first cell again and again */
-        for (n = state[2]; n > 0 && n < PASDRONGEL_CELLS + 1 + below(8); n++, length += CELL)
+        for (n = state[2]; n > 0 && n < CELLS + 1 + below(8); n++, length += CELL)
             memmove(draft + BEFORE_CELLS + CELL, draft + BEFORE_CELLS, length - BEFORE_CELLS);
         draft[9] = (uint8_t)(CELL * n / 256), draft[10] = (uint8_t)(CELL * n % 256);
         break;
@@ -1115,7 +1130,7 @@ static void to_undo(struct given *g)
     const uint8_t *cell = composition + HEAD;
     size_t i;
     for (i = below(33); i > 0 && (cell[4] | cell[6]) == 0; i--)
-        cell = composition + HEAD + 8 * below(32);
+        cell = composition + HEAD + 8 * below(composition[2] + 1u) % (STATE - HEAD);
     memcpy(g->input, typed, typed_length * sizeof *typed);
     g->length = typed_length;
     for (i = 0; i < sizeof rules / sizeof *rules; i++)
@@ -1191,21 +1206,33 @@ static const struct kind *some_kind(void)
 /* In Vietnamese mode the key, and always the removal, write the text of what they leave. */
 static void hold_text(const struct kind *kind, const struct given *g, const struct left *left)
 {
-    uint32_t text[32];
+    uint32_t text[CELLS];
     size_t count = 0;
     if (left->refusal != PASDRONGEL_DONE || kind->output != 4 || kind->use == NO_STATE || (kind->numbers == KEY && left->state[1] == 1))
         return;
     calls++;
-    if (PASDRONGEL_REFUSAL(pasdrongel_text(left->state, g->state_size, text, 32, &count)) != PASDRONGEL_DONE
+    if (PASDRONGEL_REFUSAL(pasdrongel_text(left->state, g->state_size, text, CELLS, &count)) != PASDRONGEL_DONE
         || count != left->count || memcmp(text, left->output, count * sizeof *text) != 0)
         fault(kind, "it does not write the text of what it leaves");
 }
+
+/* A call of a session that types on and on: any but those that make or empty a composition, in whose place a key comes. */
+static const struct kind *kind_that_fills(void)
+{
+    const struct kind *kind = one_in(2) ? kind_of(call_key) : some_kind();
+    return kind->use == MADE || kind->call == call_reset || kind->call == call_set_method || kind->call == call_set_mode
+               ? kind_of(call_key)
+               : kind;
+}
+
+static unsigned long filled; /* the sessions in which keys alone came to where all cells are used */
 
 static void session(void)
 {
     static struct given g;
     static struct left left;
-    unsigned length = 1 + below(120);
+    int fills = one_in(16), full = 0;
+    unsigned length = fills ? 300 : 1 + below(120);
     typed_length = 0;
     calls++;
     if (PASDRONGEL_REFUSAL(pasdrongel_new(composition, STATE, below(2))) != PASDRONGEL_DONE)
@@ -1215,7 +1242,7 @@ static void session(void)
         fault(kind_of(call_line_begin), "there is no new line");
     come_length = 0;
     while (length-- > 0) {
-        const struct kind *kind = some_kind();
+        const struct kind *kind = fills ? kind_that_fills() : some_kind();
         prepare(kind, &g);
         hold(kind, &g, &left);
         hold_text(kind, &g, &left);
@@ -1223,11 +1250,13 @@ static void session(void)
             remember(g.a);
         if (!on_line(kind) && changes(kind) && left.refusal == PASDRONGEL_DONE)
             memcpy(composition, left.state, STATE);
+        full = full || (fills && composition[2] == CELLS);
         if (on_line(kind) && g.state_size == LINE_STATE && (makes(kind) || memcmp(g.state, note, LINE_STATE) == 0)) {
             memcpy(note, left.state, LINE_STATE); /* a state that is not the session's is let go */
             come_length = makes(kind) ? 0 : come_length;
         }
     }
+    filled += (unsigned long)full;
 }
 
 static unsigned long from_environment(const char *name, unsigned long otherwise)
@@ -1264,6 +1293,9 @@ static void conclude(void)
             fault(&kinds[i], "the run has not met NULL for each of its buffers");
         printf("\n");
     }
+    printf("in %lu sessions keys came to where all cells are used\n", filled);
+    if (filled == 0)
+        fault(kind_of(call_key), "in no session keys came to where all cells are used");
 }
 #endif
 

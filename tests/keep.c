@@ -14,6 +14,7 @@
 
 #include <errno.h>
 #include <fcntl.h>
+#include <pasdrongel.h>
 #include <stdarg.h>
 #include <stdio.h>
 #include <stdlib.h>
@@ -33,7 +34,7 @@
 static struct version {
     int there;
     size_t size;
-    uint8_t bytes[200];
+    uint8_t bytes[1000];
 } versions[4];
 #define VERSIONS 4
 
@@ -340,22 +341,40 @@ static void type_keys(const char *keys)
 }
 
 /* A note is taken up, two keys are typed, and the line is ended. */
-static void cut_typing(void)
+static void cut_typing(struct version left, const char *keys, const char *expected)
 {
-    static const struct version left = {1, 38,
-        "phân 2 \n" "\1\0\1\1" "\2\0\1\0" "\3\0\16" "\0\0\0b\0\0\0" "\0\0\0o\0\0\0" "\4\0\1\0"};
+    char first[3] = "";
     int loss;
     versions[0] = left;
-    type_keys("1");
+    first[0] = keys[0];
+    type_keys(first);
     versions[1] = found(NAME);
-    type_keys("1n");
+    first[1] = keys[1];
+    type_keys(first);
     versions[2] = found(NAME);
-    type_keys("1n\n");
+    type_keys(keys);
     printed = found(OUT);
-    if (!same(printed, spelt("> phân 2 bo\nbón\tyes\tbong\n= phân 2 bón\n")) || found(NAME).there)
+    if (!same(printed, spelt(expected)) || found(NAME).there)
         fault("the note is not taken up", "typing", 0);
     for (loss = 0; loss < LOSSES; loss++)
         cut_at_each(type_note, (enum loss)loss, NOTHING_FORGOTTEN);
+}
+
+static void cut_notes(void)
+{
+    static const struct version left = {1, 38,
+        "phân 2 \n" "\1\0\1\1" "\2\0\1\0" "\3\0\16" "\0\0\0b\0\0\0" "\0\0\0o\0\0\0" "\4\0\1\0"};
+    struct version full = {1, 12, "\n" "\1\0\1\1" "\2\0\1\0" "\3\2\222"}; /* a word of 94 letters: 658 bytes of cells */
+    char expected[400], word[PASDRONGEL_CELLS + 1] = "";
+    int i;
+    cut_typing(left, "1n\n", "> phân 2 bo\nbón\tyes\tbong\n= phân 2 bón\n");
+    for (i = 0; i < PASDRONGEL_CELLS - 2; i++, full.size += 7)
+        memcpy(full.bytes + full.size, "\0\0\0b\0\0", 7);
+    memcpy(full.bytes + full.size, "\4\0\1", 4);
+    full.size += 4;
+    memset(word, 'b', PASDRONGEL_CELLS);
+    snprintf(expected, sizeof expected, "> %.94s\n%s\tno word\t\n= %s\n", word, word, word);
+    cut_typing(full, "bb\n", expected);
 }
 
 /* ---- each call fails */
@@ -436,7 +455,7 @@ int main(int count, char **words)
         cut_aside((enum loss)i);
     fail_keeping();
     others();
-    cut_typing();
+    cut_notes();
     printf("%lu power cuts and %lu failed calls, %lu do not hold\n", cuts, failures, faults);
     return faults != 0;
 }

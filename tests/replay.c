@@ -20,7 +20,7 @@
 /* Where the cells begin, as docs/BYTES.md has it. */
 #define HEAD 8
 /* The room of a session's outputs where it names no other. */
-#define ROOM 40
+#define ROOM (CELLS + 8)
 
 /* Code points or bytes, as a line spells them. */
 struct list {
@@ -84,7 +84,7 @@ static uint32_t next_letter(const char **text)
     return letter;
 }
 
-/* Appends letters: `U+002E`, `dad`, or a single one with `*32` for as many times. */
+/* Appends letters: `U+002E`, `dad`, or a single one with `*96` for as many times. */
 static void add_letters(struct list *list, const char *word)
 {
     const char *text = word;

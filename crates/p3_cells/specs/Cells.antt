@@ -11,9 +11,9 @@ use Rattle.p3_cells.specs.declared.Cell.{Cell}
 use Rattle.p3_cells.specs.declared.Composition.{Composition}
 use Rattle.p3_cells.specs.declared.Settings.{Settings}
 
--- "A composition holds at most 32 cells"
+-- "A composition holds at most 32 cells"; request 2026-05: "Raise the limit to 96"
 abbrev pub limit : ℕ
-limit = 32
+limit = 96
 
 -- "blank (base 0, no mark, no tone, flag off)"
 abbrev pub blank : Cell
@@ -44,7 +44,7 @@ isCell x = pick (inAlphabet (x .base)) (pick (markFits x) (toneFits x) false) fa
 unfoldable pub fitsAt : List Cell → ℕ → ℕ → Bool
 fitsAt cells n i = pick (ltb i n) (isCell (getD cells i blank)) (isBlank (getD cells i blank))
 
--- "Sound: count at most 32" and every cell fits; "at most 32 cells": the array has a place for each, and no more
+-- "Sound: count at most" the limit, and every cell fits; "holds at most" so many: the array has a place for each, and no more
 unfoldable pub isSound : Composition → Bool
 isSound c =
     pick (eqb (length (c .cells)) limit) (pick (leb (c .count) limit) (each (fitsAt (c .cells) (c .count)) (from limit 0)) false)

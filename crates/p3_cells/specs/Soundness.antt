@@ -17,8 +17,8 @@ pub record SoundCell (x : Cell) : Type 0 where
   pub mark : (x .mark ≡ 0) ⊎ ((x .mark ≡ x .base) × (among (x .mark) marks ≡ true))
   pub tone : (x .tone ≡ 0) ⊎ (among (x .tone) tones ≡ true)
 
--- "A composition holds at most 32 cells": its array has a place for each, and no more. "Sound: count at most 32; [each
--- cell as above]; every cell past the count blank"
+-- "A composition holds at most" `limit` "cells": its array has a place for each, and no more. "Sound: count at most" the limit;
+-- each cell as above; "every cell past the count blank". Request 2026-05 amends the number alone
 pub record Sound (c : Composition) : Type 0 where
   pub whole : length (c .cells) ≡ limit
   pub few : c .count ≤ limit

@@ -15,7 +15,7 @@ use p1_letters as letters;
 use p2_input_method as input_method;
 use p2_input_method::InputMethod;
 
-pub const LIMIT: usize = 32;
+pub const LIMIT: usize = 96;
 
 pub enum Mode {
     Vietnamese,

@@ -22,7 +22,7 @@ use Rattle.p3_step.proofs.Makes.{stepped}
 use Rattle.p3_key.specs.Process.{keyOutcome, keyed}
 use Rattle.p3_key.specs.Mirror.{soundBy, letterFor, strokeOf}
 use Rattle.p3_key.specs.declared.Stroke.{Stroke}
-use Rattle.p3_key.proofs.Faults.{faultsBy, faults-sound}
+use Rattle.p3_key.proofs.Faults.{faultsBy, sumFrom, faults-sound}
 use Rattle.p3_key.proofs.Letters.{lettersTo, letters-more}
 use Rattle.p3_key.proofs.Right.{stroked, Right, stroke-right}
 
@@ -42,22 +42,22 @@ unfolding strokeOf
 unsound m n c key r = refl
 
 -- the stroke: s is the answer of the soundness test, and the row has u bases
-stroke-known : (c : Composition) (key : ℕ) (o b : List ℕ) (trusted s : Bool) (t i j u : ℕ) (e : Stroke)
-    → places c ≡ limit → fitsFrom c 0 ≡ faultsBy c t i → limit ≤ i
-    → (trusted ≡ true → isSound c ≡ true) → s ≡ soundBy trusted (c .count) t
-    → u ≡ min (c .count) limit → Filled c b j → j ≤ u → u ≤ j
+stroke-known : (c : Composition) (key : ℕ) (o b : List ℕ) (trusted s : Bool) (t w i u : ℕ) (e : Stroke)
+    → places c ≡ limit → fitsFrom c 0 ≡ faultsBy c t i → w ≡ sumFrom c i
+    → (trusted ≡ true → isSound c ≡ true) → s ≡ soundBy trusted (c .count) (t + w)
+    → u ≡ min (c .count) limit → Filled c b i → i ≤ u → u ≤ i
     → e ≡ strokeOf s (c .settings) (rowCells (take (u - 0) (drop 0 b))) key (c .count) (length o)
     → e ≡ strokeOf (isSound c) (c .settings) (rowCells (bases (used c))) key (c .count) (length o)
-stroke-known c key o b trusted s t i j u e n f l p q h g k m r =
+stroke-known c key o b trusted s t w i u e n f l p q h g k m r =
     r ∙ ap (λ (v : Bool). strokeOf v (c .settings) (rowCells (take (u - 0) (drop 0 b))) key (c .count) (length o))
-    (faults-sound c t i trusted s n f l p q)
+    (faults-sound c t w i u n h k m f l trusted s p q)
     ∙ go (isSound c) refl
   where
     go : (v : Bool) → isSound c ≡ v
         → strokeOf v (c .settings) (rowCells (take (u - 0) (drop 0 b))) key (c .count) (length o)
         ≡ strokeOf v (c .settings) (rowCells (bases (used c))) key (c .count) (length o)
     go true z = ap (λ (row : List ℕ). strokeOf true (c .settings) (rowCells row) key (c .count) (length o))
-        (used-row c b u j z h g k m)
+        (used-row c b u i z h g k m)
     go false z = unsound (rowCells (take (u - 0) (drop 0 b))) (rowCells (bases (used c))) c key (length o)
 
 -- ---- the stores, and the text of the composition d after them
@@ -71,18 +71,18 @@ letters-stored z key c d e q p o out j v l g h f t r r′ =
     letters-more z key d o out j v h f (rw (g, length-set, length-set, l) (omega arith)) (omega arith)
 
 -- ---- the return; the row is what was lent
-pub owner-right : (c d : Composition) (key : ℕ) (o out b row : List ℕ) (trusted s : Bool) (t i j u k r : ℕ) (e : Stroke) (p q : Cell)
-    → places c ≡ limit → fitsFrom c 0 ≡ faultsBy c t i → limit ≤ i
-    → (trusted ≡ true → isSound c ≡ true) → s ≡ soundBy trusted (c .count) t
-    → u ≡ min (c .count) limit → Filled c b j → j ≤ u → u ≤ j
+pub owner-right : (c d : Composition) (key : ℕ) (o out b row : List ℕ) (trusted s : Bool) (t t′ i u k r : ℕ) (e : Stroke) (p q : Cell)
+    → places c ≡ limit → fitsFrom c 0 ≡ faultsBy c t i → t′ ≡ sumFrom c i
+    → (trusted ≡ true → isSound c ≡ true) → s ≡ soundBy trusted (c .count) (t + t′)
+    → u ≡ min (c .count) limit → Filled c b i → i ≤ u → u ≤ i
     → row ≡ take (u - 0) (drop 0 b) → e ≡ strokeOf s (c .settings) (rowCells row) key (c .count) (length o)
     → k ≡ asciiLower key → p ≡ put (e .step) c key k → q ≡ alsoPut (e .step) c → Stored c e q p d
     → out ≡ lettersTo (c .settings) key d r o → r ≤ e .letters → e .letters ≤ r
     → (record { comp = d; answer = e .answer } ≡ keyed c key (length o)) × (out ≡ output (keyOutcome c key) o)
 unfolding keyed leaving stepped
-owner-right c d key o out b row trusted s t i j u k r e p q n f l z y h g a v w x′ m x x″ y″ y′ r′ r″ =
+owner-right c d key o out b row trusted s t t′ i u k r e p q n f l z y h g a v w x′ m x x″ y″ y′ r′ r″ =
     let d′ : r ≡ e .letters = omega arith in
-    let known = stroke-known c key o b trusted s t i j u e n f l z y h g a v (rw w at x′) in
+    let known = stroke-known c key o b trusted s t t′ i u e n f l z y h g a v (rw w at x′) in
     let right : Right c key o e = rw known (stroke-right c key o) in
     let left : d ≡ stroked c e key = y″ ∙ rw (x″, x, m) refl in
     (rw left (λ δ. record { comp = right .comp δ; answer = right .told δ }), y′ ∙ rw (left, d′) (right .out))

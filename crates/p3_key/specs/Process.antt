@@ -30,7 +30,7 @@ nextCells c key = keyCells (c .settings) (used c) key
 unfoldable pub writtenFor : Composition → ℕ → List ℕ
 writtenFor c key = inMode (c .settings .mode) (textOf (c .settings .capitals) (nextCells c key)) (key ∷ [])
 
--- "a letter must be appended and 32 cells are used": then there would be one more
+-- "a letter must be appended and [all] cells are used", of which request 2026-05 makes 96: then there would be one more
 unfoldable pub isFull : Composition → ℕ → Bool
 isFull c key = inMode (c .settings .mode) (ltb limit (length (nextCells c key))) false
 

@@ -154,14 +154,23 @@ fn is_sound(trusted: bool, n: usize, faults: u64) -> bool
     faults == 0
 }
 
-// The owner. Its three loops stand here because a function that is handed the composition copies it: the row and the
-// test of the cells in use, the test of the blank ones, and the text. Where it is trusted the tests are compiled away.
+// The owner. Its three loops stand here because a function that is handed the composition copies it: the sum of all cells as
+// numbers, the row with the test of the cells in use, and the text. What the cells in use have of the sum is taken off, and 0 is
+// left where the others are blank: a loop over these alone has no known number of turns. Where it is trusted the tests are
+// compiled away.
 fn compose(mut c: Composition, key: u32, out: &mut [u32], trusted: bool) -> After
     requires { ⌜ (trusted ≡ true → isSound c ≡ true) ⌝ }
     ensures { λ r. ⌜ (r ≡ keyed c key (length (now (out .entry)))) × (now (out .exit) ≡ output (keyOutcome c key) (now (out .entry))) ⌝ }
 {
     let n = c.count;
     let used = at_most(n);
+    let mut left: u64 = 0;
+    let mut all: usize = 0;
+    while all < LIMIT {
+        let x = c.cells[all];
+        left += cells::packed(x);
+        all += 1;
+    }
     let mut bases = [0u32; LIMIT];
     let mut faults: u64 = 0;
     let mut i: usize = 0;
@@ -169,14 +178,10 @@ fn compose(mut c: Composition, key: u32, out: &mut [u32], trusted: bool) -> Afte
         let x = c.cells[i];
         bases[i] = x.base;
         faults += fault(x);
+        left -= cells::packed(x);
         i += 1;
     }
-    while i < LIMIT {
-        let x = c.cells[i];
-        faults += cells::packed(x);
-        i += 1;
-    }
-    let sound = is_sound(trusted, n, faults);
+    let sound = is_sound(trusted, n, faults + left);
     let z = c.settings;
     let e = stroke_of(sound, z, &bases[0..used], key, n, out.len());
     let s = e.step;

@@ -26,6 +26,8 @@ use Rattle.p6_draft.specs.Draft.{draftOf, Reading, gives, none, Means}
 use Rattle.p6_draft.proofs.Exact.{draft-read, one-draft}
 use Rattle.p6_draft_calls.specs.Calls.{bytesOutcome, readAnswer, readLeaves, readTo, readOn, readBytes}
 use Rattle.p6_draft_calls.proofs.Writing.{bytes-is}
+use Rattle.p6_draft_limits.specs.Within.{limitBefore, within, MeansWithin}
+use Rattle.p6_draft_limits.proofs.Panels.{old-panel-reads, old-panel-refuses}
 use Rattle.p6_host.specs.Counts.{countOut}
 use Rattle.p6_host.proofs.Made.{Made}
 use Rattle.p6_host.proofs.drafts.pasdrongel_write_draft as write
@@ -105,6 +107,19 @@ module _ (w : Written) (d : w .number ≡ 0) where
       same : compositionOf (stateOf w) ≡ compositionOf (stateOf v)
       same = one-draft _ _ (sound-composition (stateOf w) (facts .0)) (sound-composition (stateOf v) (its .0))
           (sym (facts .1) ∙ e ∙ its .1)
+
+  -- 2026-05: "Drafts of at most 32 cells keep their old bytes and read on old panels; a longer draft is one that an old reader refuses
+  -- by 11": u is what an old panel reads, and b the composition that it had
+  module _ (u : Reading) (t : MeansWithin limitBefore (draftIn w) u) (b : Composition) where
+    pub drafts-read-before : compositionOf (stateOf w) .count ≤ limitBefore
+        → readTo u b ≡ record { comp = within limitBefore (compositionOf (stateOf w)); answer = Done 0 }
+    drafts-read-before =
+        old-panel-reads (compositionOf (stateOf w)) (sound-composition (stateOf w) (facts .0)) u (rw (facts .1) at t) b
+
+    pub drafts-refused-before : limitBefore < compositionOf (stateOf w) .count
+        → (refusalOf (readTo u b .answer) ≡ 11) × (readTo u b .comp ≡ b)
+    drafts-refused-before =
+        old-panel-refuses (compositionOf (stateOf w)) (sound-composition (stateOf w) (facts .0)) u (rw (facts .1) at t) b
 
 -- ---- what was read
 -- "Refusals: 11 after 10": bytes of another length are no composition's, whatever the draft is

@@ -12,3 +12,4 @@ pub mod Told
 pub mod Made
 pub mod DraftRound
 pub mod LineParts
+pub mod LongText

@@ -13,10 +13,10 @@ use Rattle.p6_note_bytes.specs.Bytes.{lineSize}
 pub record Header : Type 0 where
   pub wordLetters : letterLimit ≡ 64
   pub lineBytes : byteLimit ≡ 256
-  pub compositionBytes : size ≡ 264
-  pub cells : limit ≡ 32
-  pub textRoom : limit ≡ 32
-  pub draftRoom : draftRoom ≡ 239
+  pub compositionBytes : size ≡ 776
+  pub cells : limit ≡ 96
+  pub textRoom : limit ≡ 96
+  pub draftRoom : draftRoom ≡ 687
   pub listedRoom : longestLength ≡ 8
   pub readRoom : byteLimit ≡ 256
   pub writeRoom : writeRoom ≡ 192

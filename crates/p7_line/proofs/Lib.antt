@@ -4,4 +4,5 @@ pub mod SameWord
 pub mod Keys
 pub mod Texts
 pub mod Typing
+pub mod Longer
 pub mod Only

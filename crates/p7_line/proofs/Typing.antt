@@ -27,7 +27,7 @@ use Rattle.p0_refusals.specs.declared.Answer.the-variants.{Done, Refused}
 use Rattle.p3_cells.specs.Settings.{atFirst}
 use Rattle.p3_calls.specs.Settings.{created}
 use Rattle.p3_calls.proofs.Kept.{new-sound}
-use Rattle.p3_cells.proofs.Holding.{used-held, settings-held, used-length, used-cells, count-fits}
+use Rattle.p3_cells.proofs.Holding.{used-held, settings-held, used-cells}
 use Rattle.p3_step.specs.Key.{keyCells}
 use Rattle.p3_key.specs.Process.{inMode, nextCells, writtenFor, isFull, keyOutcome, keyNext, keyed}
 use Rattle.p3_cells.specs.declared.After.{After}
@@ -180,9 +180,5 @@ module _ (m : InputMethod) (keys : List ℕ) (c₀ : Composition) (e : c₀ ≡ 
     unfolding madeLine
     line-typed h = rw (← begun, typing-done (c₀ .settings) keys c text n i t h, t .shown) refl
 
-    pub text-fits : (length (take n text) ≤ limit) × (allLetters (take n text) ≡ true)
-    text-fits =
-        let u = used-length c (t .sound) in
-        let f = count-fits c (t .sound) in
-        let g : length (take n text) ≡ length (used c) = ap length (t .shown) ∙ text-length (c₀ .settings .capitals) (used c) in
-        (omega arith, ap allLetters (t .shown) ∙ text-letters (c₀ .settings .capitals) (used c) (used-cells c (t .sound)))
+    pub typed-letters : allLetters (take n text) ≡ true
+    typed-letters = ap allLetters (t .shown) ∙ text-letters (c₀ .settings .capitals) (used c) (used-cells c (t .sound))

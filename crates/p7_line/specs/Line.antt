@@ -16,7 +16,9 @@ use Rattle.p3_cells.specs.declared.Cell.{Cell}
 use Rattle.p3_cells.specs.declared.Settings.{Settings}
 use Rattle.p3_cells.specs.Settings.{atFirst}
 use Rattle.p3_step.specs.Key.{keyCells}
-use Rattle.p4_spelling.specs.Verdict.{verdict}
+use Rattle.p4_spelling.specs.Answers.{verdictAnswer}
+use Rattle.p4_spelling.specs.declared.Verdict.{Verdict}
+use Rattle.p4_spelling.specs.declared.Verdict.the-variants.{Yes, No, Refused}
 use Rattle.p0_refusals.specs.Answers.{Outcome, writes, refuses}
 use Rattle.p5_utf8.specs.Rfc3629.{encodeAll}
 use Rattle.p5_utf8_text.specs.Read.{reading}
@@ -39,11 +41,17 @@ refusedLine r = word "refused " ++ (digits (numberOf r) ++ (lineEnd ∷ []))
 abbrev pub tab : ℕ
 tab = 0x09
 
--- "Per line it prints the text, a tab, and yes or no for the text's verdict"
-unfoldable pub textLine : List ℕ → List ℕ
-textLine text = encodeAll text ++ (tab ∷ (pick (verdict text) (word "yes") (word "no") ++ (lineEnd ∷ [])))
+-- "Per line it prints the text, a tab, and yes or no for the text's verdict; a refused line prints `refused` and the number"
+unfoldable pub judgedLine : List ℕ → Verdict → List ℕ
+judgedLine text Yes = encodeAll text ++ (tab ∷ (word "yes" ++ (lineEnd ∷ [])))
+judgedLine text No = encodeAll text ++ (tab ∷ (word "no" ++ (lineEnd ∷ [])))
+judgedLine text (Refused r) = refusedLine r
 
--- the cells that a line of keys makes, or none where "a letter must be appended and 32 cells are used"
+-- request 2026-05: "The word limit stays at 64, so the verdict of a longer text is refusal 6."
+unfoldable pub textLine : List ℕ → List ℕ
+textLine text = judgedLine text (verdictAnswer text)
+
+-- the cells that a line of keys makes, or none where "a letter must be appended and [all] cells are used"
 pub data KeysMade : Type 0 where
   made : List Cell → KeysMade
   full : KeysMade

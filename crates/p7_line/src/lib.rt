@@ -5,7 +5,8 @@ ghost use Prim.Native.Nat.{_+_, _≤_};
 ghost use lib.ListN.{length, take, drop};
 ghost use mathlib.Core.Bool.{true};
 ghost use Rattle.p1_letters.specs.Alphabet.{allLetters};
-ghost use Rattle.p3_cells.specs.Cells.{limit};
+ghost use Rattle.p0_refusals.specs.Limits.{letterLimit};
+ghost use Rattle.p5_utf8_text.specs.Write.{writeRoom};
 ghost use Rattle.p5_utf8.specs.Rfc3629.{encodeAll};
 ghost use Rattle.p4_rows.specs.Lookup.{sameWord};
 ghost use Rattle.p0_refusals.specs.Answers.{writes};
@@ -13,10 +14,10 @@ ghost use mathlib.Core.List.{[]};
 ghost use Rattle.p3_cells.specs.Settings.{atFirst};
 ghost use Rattle.p7_line.specs.Line.{refusedLine, textLine, keysMade, madeLine, lineOut};
 ghost use Rattle.p7_line.specs.Mirror.{lineRoom};
-ghost use Rattle.p7_line.specs.Mirror.{textBytes};
 ghost use Rattle.p7_line.specs.Method.{methodNamed, begunBy};
 use p0_refusals::Answer;
 use p0_refusals::BYTES;
+use p0_refusals::LETTERS;
 use p0_refusals::Refusal;
 use p2_input_method::InputMethod;
 use p3_cells::LIMIT;
@@ -25,8 +26,8 @@ use p7_slices as slices;
 // So much of a line decides what it prints; `most` says the same.
 pub const MOST: usize = BYTES + 1;
 
-// The most bytes of a composed text; `textBytes` says the same.
-const TEXT: usize = p5_utf8_text::writer::WIDTH * LIMIT;
+// The most bytes of a text that is printed; `writeRoom` says the same.
+const TEXT: usize = p5_utf8_text::writer::WIDTH * LETTERS;
 
 // The most that a line prints; `lineRoom` says the same.
 pub const ROOM: usize = TEXT + 5;
@@ -99,10 +100,10 @@ pub fn method_line(line: &[u8]) -> Begun
     }
 }
 
-// A composed text in UTF-8.
+// A text in UTF-8.
 fn put_text(text: &[u32], out: &mut [u8], at: usize) -> usize
-    requires { ⌜ (length (now text) ≤ limit) × (allLetters (now text) ≡ true) × (at + lineRoom ≤ length (now out)) ⌝ }
-    ensures { λ r. ⌜ (r ≡ at + length (encodeAll (now (text .entry)))) × (r ≤ at + textBytes)
+    requires { ⌜ (length (now text) ≤ letterLimit) × (allLetters (now text) ≡ true) × (at + lineRoom ≤ length (now out)) ⌝ }
+    ensures { λ r. ⌜ (r ≡ at + length (encodeAll (now (text .entry)))) × (r ≤ at + writeRoom)
         × (now (out .exit) ≡ take at (now (out .entry)) ++ (encodeAll (now (text .entry)) ++ drop r (now (out .entry)))) ⌝ }
 {
     let mut bytes = [0u8; TEXT];
@@ -113,12 +114,15 @@ fn put_text(text: &[u32], out: &mut [u8], at: usize) -> usize
     }
 }
 
-// A composed text, a tab, and its verdict.
+// A composed text, a tab, and its verdict; a longer one has none, and is refused.
 fn text_line(text: &[u32], out: &mut [u8], at: usize) -> usize
-    requires { ⌜ (length (now text) ≤ limit) × (allLetters (now text) ≡ true) × (at + lineRoom ≤ length (now out)) ⌝ }
+    requires { ⌜ (allLetters (now text) ≡ true) × (at + lineRoom ≤ length (now out)) ⌝ }
     ensures { λ r. ⌜ (r ≡ at + length (textLine (now (text .entry)))) × (r ≤ at + lineRoom)
         × (now (out .exit) ≡ take at (now (out .entry)) ++ (textLine (now (text .entry)) ++ drop r (now (out .entry)))) ⌝ }
 {
+    if LETTERS < text.len() {
+        return put_refused(Refusal::Long, out, at);
+    }
     let next = put_text(text, out, at);
     if p4_spelling::accepts(text) {
         return slices::put(b"\tyes\n", out, next);

@@ -4,7 +4,7 @@ use mathlib.Core.Path.{_≡_, refl}
 use Prim.Native.Nat.{_≤_, _-_}
 use lib.ListN.{length}
 use Rattle.p3_cells.specs.Cells.{limit}
-use Rattle.p7_line.proofs.Typing.{Typing, typing-first, typing-on, line-refused, line-typed, text-fits}
+use Rattle.p7_line.proofs.Typing.{Typing, typing-first, typing-on, line-refused, line-typed, typed-letters}
 use Rattle.p7_line.proofs.keys_line.Statement.{statement}
 use Rattle.p7_line.proofs.keys_line.Tie as tie
 
@@ -64,9 +64,9 @@ text-requires c κs =
     let new = loop .before in
     let start = new .before .before .before in
     let l = loop .loop in
-    let f = text-fits (start .args .m) (start .args .keys .now) (new .new .result) (new .new .ensures) (l .c) (l .text) (l .count) (l .i)
-    (l .inv .4) in
-    (rw (c .before .first .ensures) (f .0), rw (c .before .first .ensures) (f .1), search needs)
+    let a = typed-letters (start .args .m) (start .args .keys .now) (new .new .result) (new .new .ensures) (l .c) (l .text) (l .count)
+    (l .i) (l .inv .4) in
+    (rw (c .before .first .ensures) a, search needs)
 
 returns-2 : tie.Need-returns-2 Inv-loop μ-loop
 returns-2 c =

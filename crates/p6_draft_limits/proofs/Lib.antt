@@ -1,0 +1,4 @@
+pub mod Held
+pub mod Form
+pub mod Readers
+pub mod Panels
