@@ -39,7 +39,7 @@ def declared():
     for path in sources():
         kind = "spec" if "/specs/" in path else "proof"
         for line in read(path).split("\n"):
-            m = re.match(rf"^ *(?:(?:abbrev|unfoldable|pattern|pub|ruleset|mutual) )*({TOKEN})(?: \{{[^}}]*\}})* ?(?:: |=)", line)
+            m = re.match(rf"^ *(?:(?:abbrev|unfoldable|pattern|pub|ruleset|mutual) )*({TOKEN})(?: \{{[^}}]*\}})* ?(?:: |:$|=)", line)
             if m and not MADE.fullmatch(m.group(1)):
                 found[m.group(1)].add(kind)
             m = re.match(rf"^ *(?:let|where) ({TOKEN}) :", line)

@@ -32,22 +32,22 @@ lower_only κs a = (tt, λ z z' w w' q q'. (alike q q', refl))
 pub upper_only : OneAnswer own.upper.Kinds.ps own.upper.Kinds.r own.upper.Reads.Asked own.upper.Reads.Learnt
 upper_only κs a = (tt, λ z z' w w' q q'. (alike q q', refl))
 
-pub apply-tone-to-char-only :
+pub apply_tone_to_char_only :
     OneAnswer own.apply_tone_to_char.Kinds.ps own.apply_tone_to_char.Kinds.r
     own.apply_tone_to_char.Reads.Asked own.apply_tone_to_char.Reads.Learnt
-apply-tone-to-char-only κs a = (tt, λ z z' w w' q q'. (alike q q', refl))
+apply_tone_to_char_only κs a = (tt, λ z z' w w' q q'. (alike q q', refl))
 
 pub strip_tone_only : OneAnswer own.strip_tone.Kinds.ps own.strip_tone.Kinds.r own.strip_tone.Reads.Asked own.strip_tone.Reads.Learnt
 strip_tone_only κs a = (tt, λ z z' w w' q q'. (alike q q', refl))
 
-pub is-small-vowel-only :
+pub is_small_vowel_only :
     OneAnswer own.is_small_vowel.Kinds.ps own.is_small_vowel.Kinds.r own.is_small_vowel.Reads.Asked own.is_small_vowel.Reads.Learnt
-is-small-vowel-only κs a = (tt, λ z z' w w' q q'. (alike q q', refl))
+is_small_vowel_only κs a = (tt, λ z z' w w' q q'. (alike q q', refl))
 
 pub is_vowel_only : OneAnswer own.is_vowel.Kinds.ps own.is_vowel.Kinds.r own.is_vowel.Reads.Asked own.is_vowel.Reads.Learnt
 is_vowel_only κs a = (tt, λ z z' w w' q q'. (alike q q', refl))
 
-pub is-spelling-vowel-only :
+pub is_spelling_vowel_only :
     OneAnswer own.is_spelling_vowel.Kinds.ps own.is_spelling_vowel.Kinds.r
     own.is_spelling_vowel.Reads.Asked own.is_spelling_vowel.Reads.Learnt
-is-spelling-vowel-only κs a = (tt, λ z z' w w' q q'. (alike q q', refl))
+is_spelling_vowel_only κs a = (tt, λ z z' w w' q q'. (alike q q', refl))

@@ -22,9 +22,9 @@ pub set_capitals_only :
     OneAnswer own.set_capitals.Kinds.ps own.set_capitals.Kinds.r own.set_capitals.Reads.Asked own.set_capitals.Reads.Learnt
 set_capitals_only κs a = (tt, λ z z' w w' q q'. (alike q q', refl))
 
-pub append-literal-only :
+pub append_literal_only :
     OneAnswer own.append_literal.Kinds.ps own.append_literal.Kinds.r own.append_literal.Reads.Asked own.append_literal.Reads.Learnt
-append-literal-only κs a = (tt, λ z z' w w' q q'. (alike q q', refl))
+append_literal_only κs a = (tt, λ z z' w w' q q'. (alike q q', refl))
 
 pub get_output_only : OneAnswer own.get_output.Kinds.ps own.get_output.Kinds.r own.get_output.Reads.Asked own.get_output.Reads.Learnt
 get_output_only κs a = (tt, λ z z' w w' q q'. (alike q.0 q'.0, λ i. (tt, (alike q.1 q'.1 i, tt))))

@@ -9,7 +9,7 @@ find_uo_only κs a = (tt, λ z z' w w' q q'. (alike q q', refl))
 pub find_ua_only : OneAnswer own.find_ua.Kinds.ps own.find_ua.Kinds.r own.find_ua.Reads.Asked own.find_ua.Reads.Learnt
 find_ua_only κs a = (tt, λ z z' w w' q q'. (alike q q', refl))
 
-pub find-mark-backtrack-only :
+pub find_mark_backtrack_only :
     OneAnswer own.find_mark_backtrack.Kinds.ps own.find_mark_backtrack.Kinds.r
     own.find_mark_backtrack.Reads.Asked own.find_mark_backtrack.Reads.Learnt
-find-mark-backtrack-only κs a = (tt, λ z z' w w' q q'. (alike q q', refl))
+find_mark_backtrack_only κs a = (tt, λ z z' w w' q q'. (alike q q', refl))

@@ -3,13 +3,13 @@ use mathlib.Core.Path.{refl}
 use Rattle.p0_choice.proofs.Only.{OneAnswer, alike}
 use Rattle.p4_rows.proofs as own
 
-pub lookup-onset-only :
+pub lookup_onset_only :
     OneAnswer own.lookup_onset.Kinds.ps own.lookup_onset.Kinds.r own.lookup_onset.Reads.Asked own.lookup_onset.Reads.Learnt
-lookup-onset-only κs a = (tt, λ z z' w w' q q'. (alike q q', refl))
+lookup_onset_only κs a = (tt, λ z z' w w' q q'. (alike q q', refl))
 
-pub lookup-vowels-only :
+pub lookup_vowels_only :
     OneAnswer own.lookup_vowels.Kinds.ps own.lookup_vowels.Kinds.r own.lookup_vowels.Reads.Asked own.lookup_vowels.Reads.Learnt
-lookup-vowels-only κs a = (tt, λ z z' w w' q q'. (alike q q', refl))
+lookup_vowels_only κs a = (tt, λ z z' w w' q q'. (alike q q', refl))
 
 pub lookup_coda_only : OneAnswer own.lookup_coda.Kinds.ps own.lookup_coda.Kinds.r own.lookup_coda.Reads.Asked own.lookup_coda.Reads.Learnt
 lookup_coda_only κs a = (tt, λ z z' w w' q q'. (alike q q', refl))

@@ -15,20 +15,20 @@ mode_of_only κs a = (tt, λ z z' w w' q q'. (alike q q', refl))
 pub settings_only : OneAnswerAsked own.settings.Kinds.ps own.settings.Kinds.r own.settings.Reads.Asked own.settings.Reads.Learnt
 settings_only κs a asked z z' w w' q q' = (alike q q', refl)
 
-pub method-number-only :
+pub method_number_only :
     OneAnswerAsked own.method_number.Kinds.ps own.method_number.Kinds.r own.method_number.Reads.Asked own.method_number.Reads.Learnt
-method-number-only κs a asked z z' w w' q q' = (alike q q', refl)
+method_number_only κs a asked z z' w w' q q' = (alike q q', refl)
 
-pub mode-number-only :
+pub mode_number_only :
     OneAnswerAsked own.mode_number.Kinds.ps own.mode_number.Kinds.r own.mode_number.Reads.Asked own.mode_number.Reads.Learnt
-mode-number-only κs a asked z z' w w' q q' = (alike q q', refl)
+mode_number_only κs a asked z z' w w' q q' = (alike q q', refl)
 
 pub capitals_only : OneAnswerAsked own.capitals.Kinds.ps own.capitals.Kinds.r own.capitals.Reads.Asked own.capitals.Reads.Learnt
 capitals_only κs a asked z z' w w' q q' = (alike q q', refl)
 
-pub capitals-number-only :
+pub capitals_number_only :
     OneAnswerAsked own.capitals_number.Kinds.ps own.capitals_number.Kinds.r own.capitals_number.Reads.Asked own.capitals_number.Reads.Learnt
-capitals-number-only κs a asked z z' w w' q q' = (alike q q', refl)
+capitals_number_only κs a asked z z' w w' q q' = (alike q q', refl)
 
 pub cell_count_only : OneAnswerAsked own.cell_count.Kinds.ps own.cell_count.Kinds.r own.cell_count.Reads.Asked own.cell_count.Reads.Learnt
 cell_count_only κs a asked z z' w w' q q' = (alike q q', refl)

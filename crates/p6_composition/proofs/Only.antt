@@ -9,9 +9,9 @@ process_key_only κs a = (tt, λ z z' w w' q q'. (alike q.0 q'.0, λ i. (alike q
 pub reset_only : OneAnswer own.reset.Kinds.ps own.reset.Kinds.r own.reset.Reads.Asked own.reset.Reads.Learnt
 reset_only κs a = (tt, λ z z' w w' q q'. (alike q.0 q'.0, λ i. (alike q.1 q'.1 i, tt)))
 
-pub append-literal-only :
+pub append_literal_only :
     OneAnswer own.append_literal.Kinds.ps own.append_literal.Kinds.r own.append_literal.Reads.Asked own.append_literal.Reads.Learnt
-append-literal-only κs a = (tt, λ z z' w w' q q'. (alike q.0 q'.0, λ i. (alike q.1 q'.1 i, (tt, tt))))
+append_literal_only κs a = (tt, λ z z' w w' q q'. (alike q.0 q'.0, λ i. (alike q.1 q'.1 i, (tt, tt))))
 
 pub pop_last_only : OneAnswer own.pop_last.Kinds.ps own.pop_last.Kinds.r own.pop_last.Reads.Asked own.pop_last.Reads.Learnt
 pop_last_only κs a = (tt, λ z z' w w' q q'. (alike q.0 q'.0, λ i. (alike q.1 q'.1 i, (alike q.2 q'.2 i, tt))))

@@ -8,19 +8,19 @@ use Rattle.p6_cut.proofs as own
 pub places_of_only : OneAnswer own.places_of.Kinds.ps own.places_of.Kinds.r own.places_of.Reads.Asked own.places_of.Reads.Learnt
 places_of_only κs a = (tt, λ z z' w w' q q'. (alike q q', refl))
 
-pub onset-between-only :
+pub onset_between_only :
     OneContent own.onset_between.Kinds.ps own.onset_between.Kinds.r
     own.onset_between.Reads.Asked own.onset_between.Reads.Learnt (λ κs z. z.now)
-onset-between-only κs a = (tt, λ z z' w w' q q'. (alike q q', refl))
+onset_between_only κs a = (tt, λ z z' w w' q q'. (alike q q', refl))
 
-pub vowels-between-only :
+pub vowels_between_only :
     OneContent own.vowels_between.Kinds.ps own.vowels_between.Kinds.r
     own.vowels_between.Reads.Asked own.vowels_between.Reads.Learnt (λ κs z. z.now)
-vowels-between-only κs a = (tt, λ z z' w w' q q'. (alike q q', refl))
+vowels_between_only κs a = (tt, λ z z' w w' q q'. (alike q q', refl))
 
-pub coda-between-only :
+pub coda_between_only :
     OneContent own.coda_between.Kinds.ps own.coda_between.Kinds.r own.coda_between.Reads.Asked own.coda_between.Reads.Learnt (λ κs z. z.now)
-coda-between-only κs a = (tt, λ z z' w w' q q'. (alike q q', refl))
+coda_between_only κs a = (tt, λ z z' w w' q q'. (alike q q', refl))
 
 pub cut_only : OneAnswerWalked own.cut.ended (λ M 𝓤. own.cut.clauses 𝓤)
 cut_only = record {

@@ -70,9 +70,9 @@ module _ {A X : Type 0} (p : MutBor X) {z m : ℕ} {w u : X} {y y' : A} (k : (m 
 pub check_letter_keeps : Keeps letters.pasdrongel_check_letter.Kinds.ps letters.pasdrongel_check_letter.Reads.Learnt (λ κs a. a)
 check_letter_keeps κs a z w q h = refl
 
-pub check-composition-keeps :
+pub check_composition_keeps :
     Keeps composition.pasdrongel_check_composition.Kinds.ps composition.pasdrongel_check_composition.Reads.Learnt (λ κs a. a)
-check-composition-keeps κs a z w q h = refl
+check_composition_keeps κs a z w q h = refl
 
 -- ---- one number, after one argument
 module _ {A : Type 0} (x : A) (p : MutBor ℕ) {z m w u : ℕ} (k : (m ≡ 0 → ⊥) → u ≡ p.now) (q : (z ≡ m) × (w ≡ u)) (h : z ≡ 0 → ⊥) where
@@ -97,9 +97,9 @@ is_separator_keeps κs a z w q h = lent_number a.0 a.1.0 (letter_kept _ _ a.0) q
 pub tone_off_keeps : Keeps letters.pasdrongel_tone_off.Kinds.ps letters.pasdrongel_tone_off.Reads.Learnt (λ κs a. a)
 tone_off_keeps κs a z w q h = lent_number a.0 a.1.0 (letter_kept _ _ a.0) q h
 
-pub is-composer-vowel-keeps :
+pub is_composer_vowel_keeps :
     Keeps letters.pasdrongel_is_composer_vowel.Kinds.ps letters.pasdrongel_is_composer_vowel.Reads.Learnt (λ κs a. a)
-is-composer-vowel-keeps κs a z w q h = lent_number a.0 a.1.0 (letter_kept _ _ a.0) q h
+is_composer_vowel_keeps κs a z w q h = lent_number a.0 a.1.0 (letter_kept _ _ a.0) q h
 
 pub is_speller_vowel_keeps : Keeps letters.pasdrongel_is_speller_vowel.Kinds.ps letters.pasdrongel_is_speller_vowel.Reads.Learnt (λ κs a. a)
 is_speller_vowel_keeps κs a z w q h = lent_number a.0 a.1.0 (letter_kept _ _ a.0) q h

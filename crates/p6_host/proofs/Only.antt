@@ -65,16 +65,16 @@ and_first t e = (t.0, λ i. (e i, t.1 i))
 none_lent : {m : ℕ} (z z' : ℕ) (w w' : Unit {0} × Unit {0}) → z ≡ m → z' ≡ m → (z ≡ z') × (w ≡ w')
 none_lent z z' w w' e f = (agree e f, refl)
 
-pub composition-bytes-only :
+pub composition_bytes_only :
     OneAnswer composition-bytes.Kinds.ps composition-bytes.Kinds.r composition-bytes.Reads.Asked composition-bytes.Reads.Learnt
-composition-bytes-only κs a = (tt, λ z z' w w' e f. (agree e f, refl))
+composition_bytes_only κs a = (tt, λ z z' w w' e f. (agree e f, refl))
 
 pub check_letter_only : OneAnswer check-letter.Kinds.ps check-letter.Kinds.r check-letter.Reads.Asked check-letter.Reads.Learnt
 check_letter_only κs a = (tt, none_lent)
 
-pub check-composition-only :
+pub check_composition_only :
     OneAnswer check-composition.Kinds.ps check-composition.Kinds.r check-composition.Reads.Asked check-composition.Reads.Learnt
-check-composition-only κs a = (tt, none_lent)
+check_composition_only κs a = (tt, none_lent)
 
 -- ---- one place, after one argument
 module _ {A : Type 0} {m : ℕ} {u : A} (z z' : ℕ) (w w' : Unit {0} × (A × Unit {0})) where
@@ -99,13 +99,13 @@ is_separator_only κs a = (tt, one_lent)
 pub tone_off_only : OneAnswer tone_off_lem.Kinds.ps tone_off_lem.Kinds.r tone_off_lem.Reads.Asked tone_off_lem.Reads.Learnt
 tone_off_only κs a = (tt, one_lent)
 
-pub is-composer-vowel-only :
+pub is_composer_vowel_only :
     OneAnswer is-composer-vowel.Kinds.ps is-composer-vowel.Kinds.r is-composer-vowel.Reads.Asked is-composer-vowel.Reads.Learnt
-is-composer-vowel-only κs a = (tt, one_lent)
+is_composer_vowel_only κs a = (tt, one_lent)
 
-pub is-speller-vowel-only :
+pub is_speller_vowel_only :
     OneAnswer is-speller-vowel.Kinds.ps is-speller-vowel.Kinds.r is-speller-vowel.Reads.Asked is-speller-vowel.Reads.Learnt
-is-speller-vowel-only κs a = (tt, one_lent)
+is_speller_vowel_only κs a = (tt, one_lent)
 
 pub method_only : OneAnswer method.Kinds.ps method.Kinds.r method.Reads.Asked method.Reads.Learnt
 method_only κs a = (tt, one_lent)

@@ -3,9 +3,9 @@ use mathlib.Core.Path.{refl}
 use Rattle.p0_choice.proofs.Only.{OneAnswer, OneAnswerAsked, alike}
 use Rattle.p7_line.proofs as own
 
-pub put-refused-only :
+pub put_refused_only :
     OneAnswerAsked own.put_refused.Kinds.ps own.put_refused.Kinds.r own.put_refused.Reads.Asked own.put_refused.Reads.Learnt
-put-refused-only κs a asked z z' w w' q q' =
+put_refused_only κs a asked z z' w w' q q' =
     (alike q.0 q'.0, λ i. (tt, (alike (rw (alike q.0 q'.0) at q.2) q'.2 i, (tt, tt))))
 
 pub method_line_only : OneAnswer own.method_line.Kinds.ps own.method_line.Kinds.r own.method_line.Reads.Asked own.method_line.Reads.Learnt
