@@ -10,7 +10,7 @@ pub const LETTERS: usize = 64;
 pub const BYTES: usize = 256;
 
 // Why a call refuses: a row of document 01's table each, in its order, and then those that requests of document 02 add to it.
-#[derive(Drop)]
+#[derive(Clone, Copy)]
 pub enum Refusal {
     // a code point outside the alphabet
     Foreign,
@@ -56,7 +56,7 @@ pub fn number(refusal: Refusal) -> u32
 }
 
 // What a call that fills a lent output answers: how many letters or bytes it wrote, or why it wrote none.
-#[derive(Drop)]
+#[derive(Clone, Copy)]
 pub enum Answer {
     Done(usize),
     Refused(Refusal),

@@ -4,14 +4,14 @@ ghost use Rattle.p2_input_method.specs.Rules.{is_tone_key, mark_rules, mark_for,
 ghost use Rattle.p2_input_method.specs.Mirror.{no_rule};
 ghost use Rattle.p2_input_method.specs.declared.InputMethod.TheVariants.{Telex, Vni};
 
-#[derive(Drop)]
+#[derive(Clone, Copy)]
 pub enum InputMethod {
     Telex,
     Vni,
 }
 
 // A mark rule: its pattern of two letters, and the letter that it makes.
-#[derive(Drop)]
+#[derive(Clone, Copy)]
 pub struct MarkRule {
     pub first: u32,
     pub key: u32,

@@ -14,14 +14,14 @@ use p2_input_method::InputMethod;
 
 pub const LIMIT: usize = 96;
 
-#[derive(Drop)]
+#[derive(Clone, Copy)]
 pub enum Mode {
     Vietnamese,
     English,
 }
 
 // A typed letter. 0 stands for no mark and for no tone: neither a mark nor a tone key is U+0000.
-#[derive(Drop)]
+#[derive(Clone, Copy)]
 pub struct Cell {
     pub base: u32,
     pub mark: u16,
@@ -30,14 +30,14 @@ pub struct Cell {
 }
 
 // What a composition is set to, whatever it holds.
-#[derive(Drop)]
+#[derive(Clone, Copy)]
 pub struct Settings {
     pub method: InputMethod,
     pub mode: Mode,
     pub capitals: bool,
 }
 
-#[derive(Drop)]
+#[derive(Clone, Copy)]
 pub struct Composition {
     pub cells: [Cell; LIMIT],
     pub settings: Settings,
@@ -45,14 +45,14 @@ pub struct Composition {
 }
 
 // Where a cell is found.
-#[derive(Drop)]
+#[derive(Clone, Copy)]
 pub enum Place {
     Nowhere,
     At(usize),
 }
 
 // What a call leaves: the composition, and its answer.
-#[derive(Drop)]
+#[derive(Clone, Copy)]
 pub struct After {
     pub comp: Composition,
     pub answer: Answer,

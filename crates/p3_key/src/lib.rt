@@ -17,7 +17,7 @@ use p3_step as step;
 use p3_step::{Change, Step};
 
 // A step or a refusal, with how many letters are written and the answer.
-#[derive(Drop)]
+#[derive(Clone, Copy)]
 pub struct Stroke {
     pub step: Step,
     pub letters: usize,

@@ -14,7 +14,7 @@ use p3_marks as marks;
 use p3_tone as place;
 
 // What comes at a place: the cell as it is, with a tone, with a mark, the ư of a pair, or a typed letter.
-#[derive(Drop)]
+#[derive(Clone, Copy)]
 pub enum Change {
     Nothing,
     Tone,
@@ -24,7 +24,7 @@ pub enum Change {
 }
 
 // A step as numbers: the place, the other place that changes (else the same one), the mark, and how many cells there are then.
-#[derive(Drop)]
+#[derive(Clone, Copy)]
 pub struct Step {
     pub change: Change,
     pub at: usize,

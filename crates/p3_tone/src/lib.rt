@@ -13,7 +13,7 @@ use p3_cells::Place;
 
 // What the choice asks of a syllable's vowels: how many there are, and the places of the first three and of the last two. With
 // numbers alone there is no array of places on the stack.
-#[derive(Drop)]
+#[derive(Clone, Copy)]
 struct Seen {
     count: usize,
     first: usize,
@@ -24,7 +24,7 @@ struct Seen {
 }
 
 // The last syllable: where it starts, and its vowels.
-#[derive(Drop)]
+#[derive(Clone, Copy)]
 struct Scanned {
     start: usize,
     vowels: Seen,

@@ -20,21 +20,21 @@ use p3_cells as cells;
 use p3_cells::{Cell, Composition, LIMIT, Place};
 
 // What becomes of the trigger, or why nothing was undone.
-#[derive(Drop)]
+#[derive(Clone, Copy)]
 pub enum TelexUndo {
     AppendTrigger,
     ConsumeTrigger,
     Refused(Refusal),
 }
 
-#[derive(Drop)]
+#[derive(Clone, Copy)]
 pub struct Undone {
     pub comp: Composition,
     pub answer: TelexUndo,
 }
 
 // The cell that loses its tone; or the cell that gets a rule's first letter back, with that rule.
-#[derive(Drop)]
+#[derive(Clone, Copy)]
 pub enum Undoing {
     Nothing,
     Tone(usize),

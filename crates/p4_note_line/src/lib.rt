@@ -14,7 +14,7 @@ pub const LINE: usize = 4096;
 
 // What is told of a line: how many words it has, how many of them are judged no, and where the first of those begins; the line's
 // length where there is none.
-#[derive(Drop)]
+#[derive(Clone, Copy)]
 pub struct Report {
     pub words: usize,
     pub noes: usize,
@@ -22,14 +22,14 @@ pub struct Report {
 }
 
 // What the check of a line answers.
-#[derive(Drop)]
+#[derive(Clone, Copy)]
 pub enum Checked {
     Counted(Report),
     Refused(Refusal),
 }
 
 // What a letter is to the line before it.
-#[derive(Drop)]
+#[derive(Clone, Copy)]
 pub enum Taken {
     Gap,
     Letter,

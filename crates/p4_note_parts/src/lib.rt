@@ -18,7 +18,7 @@ use p4_spelling as spelling;
 use p4_spelling::LONGEST;
 
 // Whether a line goes on, or which refusal has ended it.
-#[derive(Drop)]
+#[derive(Clone, Copy)]
 pub enum Standing {
     Going,
     Foreign,
@@ -27,7 +27,7 @@ pub enum Standing {
 
 // What has come of a line: how many letters, the open word's number of letters and the first of these, how many words have
 // ended, how many of them are judged no, and where the first of those begins.
-#[derive(Drop)]
+#[derive(Clone, Copy)]
 pub struct Line {
     pub letters: [u32; LONGEST],
     pub length: usize,
@@ -39,7 +39,7 @@ pub struct Line {
 }
 
 // What a part leaves and answers.
-#[derive(Drop)]
+#[derive(Clone, Copy)]
 pub struct LineAfter {
     pub line: Line,
     pub answer: Answer,

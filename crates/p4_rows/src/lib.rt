@@ -7,14 +7,14 @@ ghost use Rattle.p4_rows.specs.Mirror.{pairs_of};
 ghost use Rattle.p4_rows.specs.Mirror.{key_of, rows_on, onset_keys, vowel_keys, coda_keys, spread, row_numbers};
 
 // The numbers of the rows that a part stands in: the first `count` of `rows`. No part stands in more than two.
-#[derive(Drop)]
+#[derive(Clone, Copy)]
 pub struct Rows {
     pub count: usize,
     pub rows: [usize; 2],
 }
 
 // The two matrices: which rows of a part go with which rows of the next.
-#[derive(Drop)]
+#[derive(Clone, Copy)]
 enum Matrix {
     OnsetToVowels,
     VowelsToCoda,

@@ -18,21 +18,21 @@ use p4_rows::Rows;
 pub const LONGEST: usize = 8;
 
 // Where a word is cut: its onset ends before `onset`, its vowels end before `vowels`.
-#[derive(Drop)]
+#[derive(Clone, Copy)]
 pub struct CutPlaces {
     pub onset: usize,
     pub vowels: usize,
 }
 
 // What the cut answers.
-#[derive(Drop)]
+#[derive(Clone, Copy)]
 pub enum Cut {
     At(CutPlaces),
     Refused(Refusal),
 }
 
 // What the verdict answers.
-#[derive(Drop)]
+#[derive(Clone, Copy)]
 pub enum Verdict {
     Yes,
     No,

@@ -60,7 +60,7 @@ fn last_in(entry: u32) -> u32
 }
 
 // Where a scan stopped: the node or none, what is left of the number, and the node's entry.
-#[derive(Drop)]
+#[derive(Clone, Copy)]
 struct Halt {
     node: usize,
     left: usize,
@@ -103,7 +103,7 @@ fn scan(from: usize, y: u32, most: usize) -> Halt
 }
 
 // A word: the first `len` letters.
-#[derive(Drop)]
+#[derive(Clone, Copy)]
 struct Spelled {
     len: usize,
     letters: [u32; LONGEST],
@@ -135,7 +135,7 @@ fn spell(from: usize, kept: [u32; LONGEST], at: usize, n: usize) -> Spelled
 }
 
 // Where the next word parts from a word: after `at` letters, to the first word of the node; none follows where it is none.
-#[derive(Drop)]
+#[derive(Clone, Copy)]
 struct Parting {
     node: usize,
     at: usize,

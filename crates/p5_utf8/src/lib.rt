@@ -4,7 +4,7 @@ ghost use Rattle.std.specs.Prelude.{◌≡◌, true, [], ◌∷◌, ◌++◌, �
 ghost use Rattle.p5_utf8.specs.Rfc3629.{is_scalar, encode, ◌to◌, tail, utf8_3, utf8_4, begins, char_of, char_at};
 
 // What stands at a place of bytes: a Unicode scalar value and the number of its bytes, or no character.
-#[derive(Drop)]
+#[derive(Clone, Copy)]
 pub enum Char {
     NoChar,
     Scalar(u32, usize),

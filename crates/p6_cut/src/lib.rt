@@ -7,7 +7,7 @@ ghost use Rattle.p6_cut.specs.Cut.{places_at, places_after};
 use p4_spelling as spelling;
 use p4_spelling::{Cut, CutPlaces};
 
-#[derive(Drop)]
+#[derive(Clone, Copy)]
 pub struct CutWord<'a> {
     pub word: &'a [u32],
     pub onset_end: usize,

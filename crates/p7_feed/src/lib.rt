@@ -16,7 +16,7 @@ pub const PART: usize = 512;
 pub const ROOM: usize = PART * p7_line::ROOM;
 
 // Before the method line; reading lines of keys; after a refused method line.
-#[derive(Drop)]
+#[derive(Clone, Copy)]
 pub enum Phase {
     Start,
     Keys(InputMethod),
@@ -24,13 +24,13 @@ pub enum Phase {
 }
 
 // What goes on from one part of the input to the next: how much is held of the line at hand, and the phase.
-#[derive(Drop)]
+#[derive(Clone, Copy)]
 pub struct Carry {
     pub len: usize,
     pub phase: Phase,
 }
 
-#[derive(Drop)]
+#[derive(Clone, Copy)]
 pub struct Fed {
     pub carry: Carry,
     pub n: usize,

@@ -26,7 +26,7 @@ const TEXT: usize = p5_utf8_text::writer::WIDTH * LETTERS;
 pub const ROOM: usize = TEXT + 5;
 
 // What the first line says.
-#[derive(Drop)]
+#[derive(Clone, Copy)]
 pub enum Begun {
     With(InputMethod),
     Refused(Refusal),

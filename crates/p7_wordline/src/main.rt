@@ -12,7 +12,7 @@ use p7_feed::{Carry, Phase};
 use p7_slices as slices;
 
 // What a read gave: so many bytes, the end of the input, or none, because a signal cut it short or it failed.
-#[derive(Drop)]
+#[derive(Clone, Copy)]
 enum Input {
     Bytes(usize),
     NoMore,
@@ -21,7 +21,7 @@ enum Input {
 }
 
 // What a turn leaves: what goes on to the next, what its read gave, and whether what it prints was written.
-#[derive(Drop)]
+#[derive(Clone, Copy)]
 struct Took {
     carry: Carry,
     input: Input,
