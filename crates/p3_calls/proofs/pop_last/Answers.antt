@@ -1,5 +1,5 @@
 use borrow.Author.Rules.{rules}
-use Rattle.p3_calls.proofs.Output.{removal_fits, removal}
+use Rattle.p3_calls.proofs.Output.{removal_fits, removal, removal_below}
 use Rattle.p3_calls.proofs.pop_last.Goals as goal
 
 pub returns-then-not-sound : goal.returns-then-not-sound
@@ -16,3 +16,6 @@ flatten-w-requires c = (search removal_fits, search rules)
 
 pub returns : goal.returns
 returns c = (search removal, search removal)
+
+pub bounds-c-m : goal.bounds-c-m
+bounds-c-m c = search removal_below

@@ -31,3 +31,6 @@ chosen-i-requires-2 c = (search before_below, search last_below)
 
 pub returns : goal.returns
 returns c = search answers
+
+pub overflow_sub-result : goal.overflow_sub-result
+overflow_sub-result c = search answers

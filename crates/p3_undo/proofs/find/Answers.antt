@@ -24,5 +24,5 @@ pub to_undo-requires : goal.to_undo-requires
 to_undo-requires c = search answers
 
 pub returns : goal.returns
-returns c = row_finds c.args.t1 c.requires _ c.loop-at.row _ _ _ _ refl
+returns c = row_finds c.args.c c.requires _ c.loop-at.row _ _ _ _ refl
     (signed_all _ _ _ _ c.loop-at.invariant.5 c.loop-at.invariant.0 c.loop-at-test.false) refl c.to_undo.ensures

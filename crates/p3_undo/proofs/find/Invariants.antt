@@ -8,7 +8,7 @@ use Rattle.p3_undo.proofs.find.Given as goal
 
 abbrev pub invariant-loop-at : goal.invariant-loop-at
 invariant-loop-at l =
-    (l.i ≤ l.n) × (l.n ≤ limit) × (length l.row ≡ limit) × (l.n ≤ length l.row) × (l.n ≤ places l.c) × Signed l.c l.row l.i
+    (l.at ≤ l.n) × (l.n ≤ limit) × (length l.row ≡ limit) × (l.n ≤ length l.row) × (l.n ≤ places l.c) × Signed l.c l.row l.at
 
 abbrev pub decreases-loop-at : goal.decreases-loop-at
-decreases-loop-at l = l.n - l.i
+decreases-loop-at l = l.n - l.at

@@ -5,35 +5,30 @@ use Rattle.p3_undo.proofs.Found.{tone_place_lem, mark_place_lem}
 use Rattle.p3_undo.proofs.Call.{undo_nothing, undo_toneless, undo_restored}
 use Rattle.p3_undo.proofs.undo_found.Goals as goal
 
-toned : (c : goal.After-known-told) → c.u-1.given.0.0 < limit
-toned c = search tone_place_lem
-
-marked : (c : goal.After-known-told2) → c.u-in-Mark-1.given.0.0 < limit
-marked c = search mark_place_lem
 
 pub offset_bounds-c-i : goal.offset_bounds-c-i
-offset_bounds-c-i c = omega (arith, toned c)
+offset_bounds-c-i c = let h : c.in-Tone.i < limit = search tone_place_lem in omega (arith, h)
 
 pub bounds-c-i : goal.bounds-c-i
-bounds-c-i c = toned c
+bounds-c-i c = search tone_place_lem
 
 pub offset_bounds-c-i-in-Tone : goal.offset_bounds-c-i-in-Tone
-offset_bounds-c-i-in-Tone c = omega (arith, toned c)
+offset_bounds-c-i-in-Tone c = let h : c.in-Tone.i < limit = search tone_place_lem in omega (arith, h)
 
 pub bounds-c-i-in-Tone : goal.bounds-c-i-in-Tone
-bounds-c-i-in-Tone c = toned c
+bounds-c-i-in-Tone c = search tone_place_lem
 
 pub offset_bounds-c-i-in-Mark : goal.offset_bounds-c-i-in-Mark
-offset_bounds-c-i-in-Mark c = omega (arith, marked c)
+offset_bounds-c-i-in-Mark c = let h : c.in-Mark.i < limit = search mark_place_lem in omega (arith, h)
 
 pub bounds-c-i-in-Mark : goal.bounds-c-i-in-Mark
-bounds-c-i-in-Mark c = marked c
+bounds-c-i-in-Mark c = search mark_place_lem
 
 pub offset_bounds-c-i-in-Mark-2 : goal.offset_bounds-c-i-in-Mark-2
-offset_bounds-c-i-in-Mark-2 c = omega (arith, marked c)
+offset_bounds-c-i-in-Mark-2 c = let h : c.in-Mark.i < limit = search mark_place_lem in omega (arith, h)
 
 pub bounds-c-i-in-Mark-2 : goal.bounds-c-i-in-Mark-2
-bounds-c-i-in-Mark-2 c = marked c
+bounds-c-i-in-Mark-2 c = search mark_place_lem
 
 pub returns-in-Nothing : goal.returns-in-Nothing
 returns-in-Nothing c = search undo_nothing

@@ -1,0 +1,20 @@
+use borrow.Author.Rules.{rules}
+use Rattle.p3_step.proofs.Steps.{tone_found, tone_none}
+use Rattle.p3_step.proofs.first_step.Goals as goal
+
+ruleset answers = (rules, tone_found, tone_none)
+
+pub tone_place-f-requires : goal.tone_place-f-requires
+tone_place-f-requires c = search answers
+
+pub enum_known-f : goal.enum_known-f
+enum_known-f c = search answers
+
+pub uo_step-requires : goal.uo_step-requires
+uo_step-requires c = search answers
+
+pub returns-in-At : goal.returns-in-At
+returns-in-At c = search answers
+
+pub returns-in-Nowhere : goal.returns-in-Nowhere
+returns-in-Nowhere c = search answers

@@ -1,0 +1,20 @@
+use borrow.Author.Rules.{rules}
+use Rattle.p3_step.proofs.Steps.{ua_found, ua_none}
+use Rattle.p3_step.proofs.ua_step.Goals as goal
+
+ruleset answers = (rules, ua_found, ua_none)
+
+pub ua_place-f-requires : goal.ua_place-f-requires
+ua_place-f-requires c = search answers
+
+pub enum_known-f : goal.enum_known-f
+enum_known-f c = search answers
+
+pub mark_step-requires : goal.mark_step-requires
+mark_step-requires c = search answers
+
+pub returns-in-At : goal.returns-in-At
+returns-in-At c = search answers
+
+pub returns-in-Nowhere : goal.returns-in-Nowhere
+returns-in-Nowhere c = search answers
