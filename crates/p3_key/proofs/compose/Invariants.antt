@@ -13,12 +13,12 @@ invariant-loop-all l = (l.all ≤ limit) × (l.left ≤ l.all * 2 ^ 57) × (sum_
 
 abbrev pub invariant-loop-i : goal.invariant-loop-i
 invariant-loop-i l =
-    (l.i ≤ l.used) × (length l.bases ≡ limit) × (l.faults ≤ l.i) × (l.all ≤ limit * 2 ^ 57) × Filled l.c l.bases l.i
-    × (fits_from l.c 0 ≡ faults_by l.c l.faults l.i) × (l.all ≡ sum_from l.c l.i)
+    (l.i ≤ l.used) × (length l.bases ≡ limit) × (l.faults ≤ l.i) × (l.left ≤ limit * 2 ^ 57) × Filled l.c l.bases l.i
+    × (fits_from l.c 0 ≡ faults_by l.c l.faults l.i) × (l.left ≡ sum_from l.c l.i)
 
 abbrev pub invariant-loop-j : goal.invariant-loop-j
 invariant-loop-j l =
-    (l.j ≤ l.w) × (length l.count ≡ length l.initial.count) × (l.count ≡ letters_to l.also l.key l.trusted l.j l.initial.count)
+    (l.j ≤ l.count) × (length l.out ≡ length l.initial.out) × (l.out ≡ letters_to l.w l.key l.c l.j l.initial.out)
 
 abbrev pub decreases-loop-all : goal.decreases-loop-all
 decreases-loop-all l = limit - l.all
@@ -27,4 +27,4 @@ abbrev pub decreases-loop-i : goal.decreases-loop-i
 decreases-loop-i l = l.used - l.i
 
 abbrev pub decreases-loop-j : goal.decreases-loop-j
-decreases-loop-j l = l.w - l.j
+decreases-loop-j l = l.count - l.j

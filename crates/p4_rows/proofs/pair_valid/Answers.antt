@@ -7,7 +7,7 @@ use Rattle.p4_rows.proofs.pair_valid.Goals as goal
 ruleset answers = (rules, row_on, pair_on, pair_found, pair_none)
 
 pub loop-j-preserved : goal.loop-j-preserved
-loop-j-preserved c = search answers
+loop-j-preserved c = (search rules, search rules, search (rules, row_on))
 
 pub pairs-preserved : goal.pairs-preserved
 pairs-preserved c = search answers
