@@ -1,5 +1,4 @@
 -- The search from row i of the first part on, and for that row from row j of the second on; a pair that the matrix allows ends it.
-use Prim.Native.Nat.{◌-◌}
 use borrow.Author.Rules.{rules}
 use Rattle.p4_rows.proofs.Pairs.{row_on, pair_on, pair_found, pair_none}
 use Rattle.p4_rows.proofs.pair_valid.Goals as goal
