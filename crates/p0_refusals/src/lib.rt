@@ -1,4 +1,6 @@
 // What a call answers: how much it wrote, or why it refuses.
+#![tactic(auto)]
+
 ghost use Rattle.std.specs.Prelude.{◌≡◌};
 ghost use Rattle.p0_refusals.specs.Answers.{refusal_of};
 ghost use Rattle.p0_refusals.specs.Refusals.{number_of};

@@ -1,5 +1,7 @@
 // The letters of document 01's alphabet: which they are, their case, tone on and off, and the two vowel
 // tests (port order 1). Every function takes every u32; what is no letter is left as it is.
+#![tactic(auto)]
+
 ghost use Rattle.std.specs.Prelude.{ℕ, ◌/◌, ◌%◌, ◌^◌, ◌≤◌, ◌<◌, ◌≡◌, eqb};
 ghost use Rattle.p0_choice.specs.Choice.{among};
 ghost use Rattle.p1_letters.specs.Mirror.{first_foreign};

@@ -1,5 +1,7 @@
 // The tones as one block of letters: twelve rows of a vowel and its five toned letters. A letter is found by its place, and a
 // place by its letter. The compiler makes constant tables of the arms. Written by tools/tones.py.
+#![tactic(auto)]
+
 ghost use Rattle.std.specs.Prelude.{◌≡◌};
 ghost use Rattle.p1_tone_block.specs.Mirror.{tone_block, letter_at, place_in, letter_place};
 

@@ -1,4 +1,6 @@
 // The two input methods (input_method.rs): tone keys, and mark rules in order.
+#![tactic(auto)]
+
 ghost use Rattle.std.specs.Prelude.{◌≡◌, get_or};
 ghost use Rattle.p2_input_method.specs.Rules.{is_tone_key, mark_rules, mark_for, is_horn_key};
 ghost use Rattle.p2_input_method.specs.Mirror.{no_rule};

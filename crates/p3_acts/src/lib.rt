@@ -1,5 +1,7 @@
 // The keys that act (bamboo.rs: process_key): tone keys, and the keys of mark rules. Any other key is appended, whatever the
 // cells are, so that its step needs no row of bases.
+#![tactic(auto)]
+
 ghost use Rattle.std.specs.Prelude.{◌≡◌};
 ghost use Rattle.p2_input_method.specs.declared.InputMethod.TheVariants.{Telex, Vni};
 ghost use Rattle.p3_acts.specs.Mirror.{acts as acts_of};

@@ -1,5 +1,7 @@
 // The calls on a composition beside the key and undo (bamboo.rs), by value. Each takes any composition and refuses one that
 // is not sound; after a refusal the composition and the output are what they were.
+#![tactic(auto)]
+
 ghost use Rattle.std.specs.Prelude.{◌≡◌, [], length};
 ghost use Rattle.p0_refusals.specs.Answers.{answer, output};
 ghost use Rattle.p3_cells.specs.Cells.{composed};

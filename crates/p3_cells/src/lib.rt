@@ -1,5 +1,7 @@
 // A composition: at most LIMIT cells and the settings, by value (bamboo.rs), its soundness and its text. The count comes
 // last, so that the cells can be copied as one block.
+#![tactic(auto)]
+
 ghost use Rattle.std.specs.Prelude.{◌≡◌, ◌++◌, ◌<◌, ◌≤◌, ◌^◌, eqb, length, drop};
 ghost use Rattle.p0_choice.specs.Choice.{among};
 ghost use Rattle.p3_cells.specs.Cells.{limit, blank as blank_cell, is_blank, marks, tone_fits, is_cell, typed as typed_cell, is_sound};

@@ -1,4 +1,6 @@
 // Where the uo, ua and mark steps change cells (bamboo.rs: process_key, find_mark_backtrack), over a lent row of bases.
+#![tactic(auto)]
+
 ghost use Rattle.std.specs.Prelude.{◌≡◌};
 ghost use Rattle.p3_cells.specs.Mirror.{row_cells};
 ghost use Rattle.p3_marks.specs.Uo.{uo_place};

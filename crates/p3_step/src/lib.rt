@@ -1,5 +1,7 @@
 // The step of a key (bamboo.rs: process_key), the first that fits, over a lent row of bases: as numbers, since a
 // composition by value would be copied at each step.
+#![tactic(auto)]
+
 ghost use Rattle.std.specs.Prelude.{◌≡◌, false, ◌≤◌, length};
 ghost use Rattle.p0_choice.specs.Choice.{pick};
 ghost use Rattle.p3_cells.specs.Cells.{limit};

@@ -1,5 +1,7 @@
 // The cell that takes a tone (bamboo.rs: last_syllable_range, find_tone_position), over a lent row of bases: on sound
 // cells a letter is its base, so that one row serves vowels, separators and bases.
+#![tactic(auto)]
+
 ghost use Rattle.std.specs.Prelude.{◌≡◌, false, ◌+◌, ◌<◌, ◌≤◌, eqb, ltb, length, get_or, drop};
 ghost use Rattle.p0_choice.specs.Choice.{pick};
 ghost use Rattle.p3_cells.specs.Cells.{blank};

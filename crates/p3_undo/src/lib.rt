@@ -1,5 +1,7 @@
 // Undo of the last Telex step (bamboo.rs, undo_telex_transform): what is to be undone is found first, as a small answer,
 // in a lent row of the cells' signs, and stored at one place.
+#![tactic(auto)]
+
 ghost use Rattle.std.specs.Prelude.{◌≡◌, true, ◌<◌, ◌≤◌, ◌+◌, length, get_or, drop};
 ghost use Rattle.p0_choice.specs.Choice.{among};
 ghost use Rattle.p0_choice.specs.Text.{word};

@@ -1,5 +1,7 @@
 // A note line (document 02, request 2026-04): words and gaps by turns, each word judged. Here the line is whole; `p4_note_parts` takes it
 // as it comes in.
+#![tactic(auto)]
+
 ghost use Rattle.std.specs.Prelude.{◌≡◌, false, ◌+◌, ◌*◌, ◌<◌, ◌≤◌, length, get_or};
 ghost use Rattle.p1_letters.specs.Alphabet.{is_separator};
 ghost use Rattle.p4_note_line.specs.Line.{line_limit, taking, line_fault, line_answer};

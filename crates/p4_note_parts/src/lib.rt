@@ -1,5 +1,7 @@
 // A note line in parts (document 02, request 2026-04): the line as it comes in, cut anywhere. A state stands for what has come; it is
 // handed over by value, and `p6_note_bytes` has it as bytes.
+#![tactic(auto)]
+
 ghost use Rattle.std.specs.Prelude.{◌≡◌, true, false, length, leb};
 ghost use Rattle.p0_choice.specs.Choice.{pick};
 ghost use Rattle.p0_refusals.specs.Limits.{letter_limit};

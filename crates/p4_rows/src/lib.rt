@@ -1,5 +1,7 @@
 // The rows of `spelling.rs` as letter tables, and its two matrices: in which rows a part of a word stands,
 // and whether a row of one part goes with a row of another.
+#![tactic(auto)]
+
 ghost use Rattle.std.specs.Prelude.{◌≡◌, min};
 ghost use Rattle.p4_rows.specs.Rows.{onset_rows, vowel_rows, coda_rows, onset_to_vowels, vowels_to_coda};
 ghost use Rattle.p4_rows.specs.Lookup.{rows_of, allows as allowed, go_together};

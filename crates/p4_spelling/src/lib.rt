@@ -1,5 +1,7 @@
 // Cut and verdict (document 01, port order 4: `spelling.rs`). A word is cut into onset, vowels and coda, and judged by
 // the rows of `p4_rows`.
+#![tactic(auto)]
+
 ghost use Rattle.std.specs.Prelude.{◌≡◌, ◌≤◌, length, true, eqb};
 ghost use Rattle.p0_choice.specs.Choice.{pick};
 ghost use Rattle.p4_rows.specs.Rows.{onset_to_vowels};

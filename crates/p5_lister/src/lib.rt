@@ -1,5 +1,7 @@
 // The lister (document 01, port order 5): the listed words by number, and the one that follows a word. Both go down the
 // table of nodes of `p5_listing`: a letter's node stands in a row with those beside it, and each step goes to a higher number.
+#![tactic(auto)]
+
 ghost use Rattle.std.specs.Prelude.{◌≡◌, ◌++◌, ◌+◌, ◌≤◌, ◌<◌, length, take, drop};
 ghost use Rattle.p5_trie.specs.Mirror.{trie_size, nth, trie_at};
 ghost use Rattle.p5_trie.specs.Numbering.{Many};

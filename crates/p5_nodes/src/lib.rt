@@ -1,5 +1,7 @@
 // The table of nodes that specs/Mirror.antt of p5_listing defines, as arms that the compiler makes a constant table of; one
 // function alone calls it, so that the table is read where it is used. Written by tools/nodes.py.
+#![tactic(auto)]
+
 ghost use Rattle.std.specs.Prelude.{◌≡◌};
 ghost use Rattle.p5_listing.specs.Mirror.{entry_at};
 

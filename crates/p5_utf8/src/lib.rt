@@ -1,5 +1,7 @@
 // UTF-8 by RFC 3629, for all of Unicode: the character at a place of bytes, and the bytes of a code point. The reader and
 // the writer over document 01's alphabet are p5_utf8_text.
+#![tactic(auto)]
+
 ghost use Rattle.std.specs.Prelude.{◌≡◌, true, [], ◌∷◌, ◌++◌, ◌+◌, ◌≤◌, ◌<◌, get_or, length, take, drop};
 ghost use Rattle.p5_utf8.specs.Rfc3629.{is_scalar, encode, ◌to◌, tail, utf8_3, utf8_4, begins, char_of, char_at};
 

@@ -1,4 +1,6 @@
 // The composition as bytes, for a host in C: read, tested and written. docs/BYTES.md states their order.
+#![tactic(auto)]
+
 ghost use Rattle.std.specs.Prelude.{◌≡◌, true, ◌++◌, ◌+◌, ◌*◌, ◌<◌, ◌≤◌, length, take, drop};
 ghost use Rattle.p3_cells.specs.Cells.{limit};
 ghost use Rattle.p3_cells.specs.Mirror.{cell_of};

@@ -1,5 +1,7 @@
 // The calls on a composition given as bytes, which they find altered there. Each tests the bytes once; then cells are read
 // and stored where they lie. After a refusal not a byte has changed.
+#![tactic(auto)]
+
 ghost use Rattle.std.specs.Prelude.{◌≡◌, true, ◌++◌, ◌<◌, ◌≤◌, length, take, drop};
 ghost use Rattle.p3_calls.specs.Output.{text_outcome, removal_outcome};
 ghost use Rattle.p3_cells.specs.Cells.{limit, used};

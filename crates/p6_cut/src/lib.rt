@@ -1,5 +1,7 @@
 // For a host in Rattle: a cut word keeps the lent word together with its two cut places, and onset, vowels and coda are
 // parts of that word. Each function over a cut word takes it apart and calls one on the slice and the places.
+#![tactic(auto)]
+
 ghost use Rattle.std.specs.Prelude.{◌≡◌};
 ghost use Rattle.p4_spelling.specs.Answers.{onset_part, vowels_part, coda_part};
 ghost use Rattle.p6_cut.specs.Cut.{places_at, places_after};

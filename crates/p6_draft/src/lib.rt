@@ -1,4 +1,6 @@
 // A composition as a draft, for keeping (document 02, 2026-02): tagged fields, written and read. docs/DRAFTS.md takes one apart.
+#![tactic(auto)]
+
 ghost use Rattle.std.specs.Prelude.{◌≡◌, [], ◌∷◌, ◌+◌, ◌*◌, ◌<◌, ◌≤◌, length};
 ghost use Rattle.p3_cells.specs.Cells.{limit};
 ghost use Rattle.p6_draft.specs.Draft.{field, mark_byte, draft_cell};

@@ -1,5 +1,7 @@
 // For a host in Rattle: it lends one composition and finds it altered there. Each call takes the composition whole, hands
 // it to the call by value, stores what comes back, and answers as that call does.
+#![tactic(auto)]
+
 ghost use Rattle.std.specs.Prelude.{◌≡◌, length};
 ghost use Rattle.p0_refusals.specs.Answers.{output};
 ghost use Rattle.p3_calls.specs.Output.{removal_outcome, removed};

@@ -1,4 +1,6 @@
 // The state of a note line as bytes, for a host in C: read, tested and written. docs/BYTES.md states their order.
+#![tactic(auto)]
+
 ghost use Rattle.std.specs.Prelude.{◌≡◌, ◌++◌, ◌+◌, ◌*◌, ◌≤◌, length, take, drop};
 ghost use Rattle.p4_spelling.specs.Verdict.{longest_length};
 ghost use Rattle.p6_note_bytes.specs.Bytes.{kept_start, line_size, standing_byte, kept_bytes, line_head, line_bytes};

@@ -1,4 +1,6 @@
 // Whether bytes are 0, many at once, and writing zeros.
+#![tactic(auto)]
+
 ghost use Rattle.std.specs.Prelude.{◌≡◌, false, ◌++◌, ◌+◌, ◌*◌, ◌-◌, ◌≤◌, eqb, length, take, drop};
 ghost use Rattle.p0_choice.specs.Choice.{pick};
 ghost use Rattle.p6_zeros.specs.Zeros.{zeros};

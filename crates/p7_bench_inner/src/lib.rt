@@ -1,5 +1,7 @@
 // The loop of p7_bench over the inner key, which requires soundness and does not test it; alone in its library, so that the
 // inner key has one caller there.
+#![tactic(auto)]
+
 ghost use Rattle.std.specs.Prelude.{◌≡◌};
 ghost use Rattle.p7_bench.specs.Run.{after_keys};
 ghost use Rattle.p7_bench.specs.Typing.{type_key, fresh};

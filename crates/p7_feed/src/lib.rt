@@ -1,4 +1,6 @@
 // What `wordline` does with its input, a part at a time: the line at hand is held in bounded memory.
+#![tactic(auto)]
+
 ghost use Rattle.std.specs.Prelude.{◌≡◌, ◌++◌, ◌+◌, ◌≤◌, length, take, drop};
 ghost use Rattle.p0_refusals.specs.Answers.{onto};
 ghost use Rattle.p7_line.specs.Line.{most};

@@ -1,4 +1,6 @@
 // What `wordline` does with a line: the method line names a method, any other is keys for a fresh composition.
+#![tactic(auto)]
+
 ghost use Rattle.std.specs.Prelude.{◌≡◌, ◌++◌, ◌+◌, ◌≤◌, length, take, drop, true, []};
 ghost use Rattle.p1_letters.specs.Alphabet.{all_letters};
 ghost use Rattle.p0_refusals.specs.Limits.{letter_limit};

@@ -1,4 +1,6 @@
 // Parts of slices, and bytes written at a place of a lent output.
+#![tactic(auto)]
+
 ghost use Rattle.std.specs.Prelude.{◌≡◌, ◌++◌, ◌+◌, ◌≤◌, length, take, drop};
 
 // The first n letters, or all where there are fewer.

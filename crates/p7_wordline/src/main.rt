@@ -1,5 +1,7 @@
 // Reads a method line and lines of keys from standard input; prints each line's text, a tab, and yes or no.
 // What is done with the bytes is p7_feed's; here they are read and written, in order, and what fails is told.
+#![tactic(auto)]
+
 ghost use Rattle.std.specs.Prelude.{◌≤◌, ◌≡◌, true, false, length};
 ghost use Rattle.p0_refusals.specs.Answers.{onto};
 ghost use Rattle.p7_line.specs.Line.{most};

@@ -1,4 +1,6 @@
 // Prints every listed word, one to a line, in UTF-8 and in order. Where one is not written, nothing more is, and that is told.
+#![tactic(auto)]
+
 use libc::STDOUT_FILENO;
 use p0_refusals::Answer;
 use p4_spelling::LONGEST;

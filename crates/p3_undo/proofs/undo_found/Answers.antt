@@ -5,7 +5,6 @@ use Rattle.p3_undo.proofs.Found.{tone_place_lem, mark_place_lem}
 use Rattle.p3_undo.proofs.Call.{undo_nothing, undo_toneless, undo_restored}
 use Rattle.p3_undo.proofs.undo_found.Goals as goal
 
-
 pub offset_bounds-c-i : goal.offset_bounds-c-i
 offset_bounds-c-i c = let h : c.in-Tone.i < limit = search tone_place_lem in omega (arith, h)
 

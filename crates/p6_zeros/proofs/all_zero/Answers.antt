@@ -1,5 +1,4 @@
 use borrow.Author.Rules.{rules}
-use Prim.Native.Nat.{◌-◌}
 use mathlib.Core.Path.{refl}
 use Rattle.p6_zeros.proofs.Zeros.{from_start, from_on, from_bad, from_done}
 use Rattle.p6_zeros.proofs.all_zero.Goals as goal

@@ -1,5 +1,4 @@
 use borrow.Author.Rules.{rules}
-use Prim.Native.Nat.{◌-◌}
 use mathlib.Core.Path.{refl}
 use Rattle.p6_zeros.proofs.Zeros.{long_zero, block_start, block_on, block_done}
 use Rattle.p6_zeros.proofs.block.Goals as goal

@@ -1,5 +1,4 @@
 use borrow.Author.Rules.{rules}
-use Prim.Native.Nat.{◌-◌}
 use mathlib.Core.Path.{refl}
 use Rattle.p6_zeros.proofs.Zeros.{few_start, few_on, few_done}
 use Rattle.p6_zeros.proofs.few_zero.Goals as goal

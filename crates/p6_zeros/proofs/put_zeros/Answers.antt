@@ -1,5 +1,4 @@
 use borrow.Author.Rules.{rules}
-use Prim.Native.Nat.{◌-◌}
 use mathlib.Core.Path.{refl}
 use Rattle.p6_zeros.proofs.Writing.{zeros_start, zeros_on, zeros_done}
 use Rattle.p6_zeros.proofs.put_zeros.Goals as goal
