@@ -10,15 +10,16 @@ use Rattle.p7_wordline.specs.declared.Input.{Input}
 use Rattle.p7_wordline.specs.declared.Input.TheVariants.{Bytes, NoMore, Interrupted, Failed}
 use Rattle.p7_wordline.specs.declared.Took.{Took}
 
--- What a read into a part of n bytes gave, by its answer and, where that is negative, by the number of the error: 4, EINTR,
+-- What a read into a part of n bytes gave, by its answer and, where that is an error, by the number of the error: 4, EINTR,
 -- for one that a signal cut short. Only an answer of 0 is the end of the input.
-unfoldable pub failure : ℤ → Input
-failure (pos k) = pick (eqb k 4) Interrupted Failed
-failure (negsuc k) = Failed
+unfoldable pub failure : Option ℤ → Input
+failure None = Failed
+failure (Some (pos k)) = pick (eqb k 4) Interrupted Failed
+failure (Some (negsuc k)) = Failed
 
-unfoldable pub input_of : ℤ → ℤ → ℕ → Input
-input_of (pos k) error n = pick (eqb k 0) NoMore (Bytes (min k n))
-input_of (negsuc k) error n = failure error
+unfoldable pub input_of : Result ℕ Error → ℕ → Input
+input_of (Ok k) n = pick (eqb k 0) NoMore (Bytes (min k n))
+input_of (Err error) n = failure (raw_os_error error)
 
 -- the bytes that it left, at the start of the part
 unfoldable pub amount : Input → ℕ

@@ -9,9 +9,14 @@ ghost use Rattle.p7_feed.specs.Mirror.{state_of, part_most, out_room, run_to, ru
 ghost use Rattle.p7_wordline.specs.Mirror.{input_of, amount as amount_of, bytes_read, is_over, goes_on, Came};
 ghost use Rattle.p7_wordline.specs.declared.Input.TheVariants.{NoMore};
 
-use libc::{STDIN_FILENO, STDOUT_FILENO};
 use p7_feed::{Carry, Phase};
 use p7_slices as slices;
+use std::io;
+use std::io::{Error, Read, Stdin, Stdout};
+use std::process::ExitCode;
+
+// The number of the error of a read that a signal cut short.
+const EINTR: i32 = 4;
 
 // What a read gave: so many bytes, the end of the input, or none, because a signal cut it short or it failed.
 #[derive(Clone, Copy)]
@@ -22,28 +27,34 @@ enum Input {
     Failed,
 }
 
-// What a turn leaves: what goes on to the next, what its read gave, and whether what it prints was written.
+// What a turn leaves: what goes on to the next, what its read gave, whether what it prints was written, and the error where
+// it was not read or written.
 #[derive(Clone, Copy)]
 struct Took {
     carry: Carry,
     input: Input,
     written: bool,
+    error: Option<Error>,
 }
 
-// What a read gave, by its answer and by errno after it.
-fn input_of(said: isize, error: i32, part: &[u8]) -> Input
-    ensures { result ≡ input_of said error (length part.now) }
+// What a read gave, by its answer.
+fn input_of(said: io::Result<usize>, part: &[u8]) -> Input
+    ensures { result ≡ input_of said (length part.now) }
 {
-    if said < 0 {
-        if error == libc::EINTR {
-            return Input::Interrupted;
+    match said {
+        Err(error) => {
+            if error.raw_os_error() == Some(EINTR) {
+                return Input::Interrupted;
+            }
+            Input::Failed
         }
-        return Input::Failed;
+        Ok(k) => {
+            if k == 0 {
+                return Input::NoMore;
+            }
+            Input::Bytes(k.min(part.len()))
+        }
     }
-    if said == 0 {
-        return Input::NoMore;
-    }
-    Input::Bytes(io::count(said, part))
 }
 
 // How many bytes it left.
@@ -59,7 +70,14 @@ fn amount(input: Input) -> usize
 }
 
 // One read into `part`; what its bytes print stands at the start of `out`, and is written.
-fn turn(part: &mut [u8], line: &mut [u8], carry: Carry, out: &mut [u8]) -> Took
+fn turn(
+    from: &mut Stdin,
+    to: Stdout,
+    part: &mut [u8],
+    line: &mut [u8],
+    carry: Carry,
+    out: &mut [u8],
+) -> Took
     requires { (length part.old ≡ part_most) × (length line.old ≡ most) × (carry.len ≤ most) × (length out.old ≡ out_room)
         × (is_over carry.phase ≡ false) }
     ensures held { (state_of line.new result.carry ≡ run_to (state_of line.old carry)
@@ -69,18 +87,18 @@ fn turn(part: &mut [u8], line: &mut [u8], carry: Carry, out: &mut [u8]) -> Took
     ensures printed { out.new ≡ onto (run_out (state_of line.old carry) (bytes_read result.input part.new))
         out.old }
 {
-    let said = libc::read(STDIN_FILENO, part);
-    let error = os::errno();
-    let input = input_of(said, error, part);
+    let said = from.read(part);
+    let input = input_of(said, part);
     let k = amount(input);
     let fed = p7_feed::feed(slices::first_bytes(part, k), line, carry, out);
     let n = fed.n;
     let next = fed.carry;
-    let written = io::write_all(STDOUT_FILENO, slices::first_bytes(out, n));
+    let wrote = to.write_all(slices::first_bytes(out, n));
     Took {
         carry: next,
         input,
-        written,
+        written: wrote.is_ok(),
+        error: wrote.err().or(said.err()),
     }
 }
 
@@ -117,7 +135,7 @@ fn goes_on(took: Took) -> bool
 }
 
 // Turn after turn, and what the last one leaves.
-fn run(line: &mut [u8]) -> Took
+fn run(from: &mut Stdin, to: Stdout, line: &mut [u8]) -> Took
     requires { length line.old ≡ most }
     ensures { Came line.new result.carry × (goes_on result ≡ false) }
 {
@@ -129,7 +147,7 @@ fn run(line: &mut [u8]) -> Took
     let mut out = [0u8; p7_feed::ROOM];
     let mut turns = u64::MAX;
     while turns > 0 {
-        let took = turn(&mut part, line, carry, &mut out);
+        let took = turn(from, to, &mut part, line, carry, &mut out);
         if !goes_on(took) {
             return took;
         }
@@ -141,36 +159,46 @@ fn run(line: &mut [u8]) -> Took
         carry,
         input: Input::Failed,
         written: true,
+        error: None,
     }
 }
 
-fn tell_unwritten() {
-    os::fail(b"wordline: not all was written");
+// Tells what was not done, and by which error. What can not be told either is told nowhere.
+fn fail(to: &impl Eprint, what: &str, error: Option<Error>) -> ExitCode {
+    let _ = match error {
+        Some(error) => eprintln!(to; "wordline: {what}: {error}"),
+        None => eprintln!(to; "wordline: {what}"),
+    };
+    ExitCode::FAILURE
+}
+
+fn tell_unwritten(to: &impl Eprint, error: Option<Error>) -> ExitCode {
+    fail(to, "not all was written", error)
 }
 
 // The end of the input: the line at hand, which no line end has closed.
-fn finish(line: &[u8], ran: Took)
+fn finish(rt: &(impl Print + Eprint), line: &[u8], ran: Took) -> ExitCode
     requires { (ran.input ≡ NoMore) × (ran.written ≡ true) }
 {
     let carry = ran.carry;
     let mut out = [0u8; p7_line::ROOM];
     let n = p7_feed::finish(line, carry, &mut out);
-    if !io::write_all(STDOUT_FILENO, slices::first_bytes(&out, n)) {
-        tell_unwritten();
+    match rt.write_all(slices::first_bytes(&out, n)) {
+        Ok(()) => ExitCode::SUCCESS,
+        Err(error) => tell_unwritten(rt, Some(error)),
     }
 }
 
-fn main() {
+fn main(rt: HostRuntime) -> ExitCode {
     let mut line = [0u8; p7_line::MOST];
-    let ran = run(&mut line);
+    let ran = run(&mut rt.stdin(), rt.stdout(), &mut line);
     if !ran.written {
-        tell_unwritten();
-        return;
+        return tell_unwritten(&rt, ran.error);
     }
     let input = ran.input;
     match input {
-        Input::NoMore => finish(&line, ran),
-        Input::Failed => os::fail(b"wordline: not all was read"),
-        _ => {}
+        Input::NoMore => finish(&rt, &line, ran),
+        Input::Failed => fail(&rt, "not all was read", ran.error),
+        _ => ExitCode::SUCCESS,
     }
 }

@@ -1,47 +1,50 @@
 // Prints every listed word, one to a line, in UTF-8 and in order. Where one is not written, nothing more is, and that is told.
 #![tactic(auto)]
 
-use libc::STDOUT_FILENO;
 use p0_refusals::Answer;
 use p4_spelling::LONGEST;
 use p7_slices as slices;
+use std::io;
+use std::io::{Error, Stdout};
+use std::process::ExitCode;
 
 // The most bytes of a word.
 const WORD: usize = p5_utf8_text::writer::WIDTH * LONGEST;
 
-// Writes a word and a line feed; false where it is not written.
-fn print(word: &[u32]) -> bool {
+// Writes a word and a line feed; an error where it is not written.
+fn print(to: Stdout, word: &[u32]) -> io::Result<()> {
     let mut bytes = [0u8; WORD + 1];
     let given = p5_utf8_text::writer::write(word, &mut bytes);
     match given {
-        Answer::Refused(_) => false,
+        Answer::Refused(_) => Err(Error::other("no letters of a word")),
         Answer::Done(n) => {
             if WORD < n {
-                return false;
+                return Err(Error::other("more letters than a word's"));
             }
             bytes[n] = 10;
-            io::write_all(STDOUT_FILENO, slices::first_bytes(&bytes, n + 1))
+            to.write_all(slices::first_bytes(&bytes, n + 1))
         }
     }
 }
 
-// Writes the word of a number; false where it is not written.
-fn print_number(n: usize) -> bool {
+// Writes the word of a number; an error where it is not written.
+fn print_number(to: Stdout, n: usize) -> io::Result<()> {
     let mut letters = [0u32; LONGEST];
     let given = p5_lister::word_number(n, &mut letters);
     match given {
-        Answer::Refused(_) => false,
-        Answer::Done(len) => print(slices::first(&letters, len)),
+        Answer::Refused(_) => Err(Error::other("no word of this number")),
+        Answer::Done(len) => print(to, slices::first(&letters, len)),
     }
 }
 
-fn main() {
+fn main(rt: HostRuntime) -> ExitCode {
     let mut n: usize = 0;
     while n < p5_lister::total() {
-        if !print_number(n) {
-            os::fail(b"wordlist: not all was written");
-            return;
+        if let Err(error) = print_number(rt.stdout(), n) {
+            let _ = eprintln!(rt; "wordlist: not all was written: {error}");
+            return ExitCode::FAILURE;
         }
         n += 1;
     }
+    ExitCode::SUCCESS
 }
