@@ -21,7 +21,7 @@ def crates():
     for line in (ROOT / "crates.txt").read_text(encoding="utf-8").splitlines():
         if ":" in line and not line.startswith("#"):
             name, below = line.split(":")
-            known[name] = below.split()
+            known[name.split()[0]] = below.split()
     ordered = {}
 
     def visit(name):

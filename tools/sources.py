@@ -24,7 +24,7 @@ def crates(root=ROOT):
     for line in (root / "crates.txt").read_text(encoding="utf-8").splitlines():
         line = line.split("#")[0]
         if ":" in line:
-            listed.append(line.split(":")[0].strip())
+            listed.append(line.split()[0].rstrip(":"))
     return list(dict.fromkeys(listed))
 
 
