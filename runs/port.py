@@ -21,7 +21,7 @@ def crates():
     for line in (ROOT / "crates.txt").read_text(encoding="utf-8").splitlines():
         if ":" in line and not line.startswith("#"):
             name, below = line.split(":")
-            known[name] = below.split()
+            known[name.split()[0]] = below.split()
     ordered = {}
 
     def visit(name):
@@ -35,8 +35,9 @@ def crates():
 
 
 def without_contracts(text):
-    """Rattle's code as Rust: contracts and their `ghost use` taken off, and every struct and enum copied as in Rattle."""
-    text = re.sub(r"^ghost use [^;]*;\n", "", text, flags=re.M)
+    """Rattle's code as Rust: contracts, their `ghost use` and what speaks to the prover taken off."""
+    text = re.sub(r"^(?:ghost use [^;]*;|#!\[tactic\(.*\)\])\n", "", text, flags=re.M)
+    text = re.sub(r"^\s*#\[(?:tactic|cycle)\(.*\)\]\n", "", text, flags=re.M)
     kept, at = [], 0
     for clause in re.finditer(r"\n\s*(?:requires|ensures)(?: \w+)? \{", text):
         if clause.start() < at:
@@ -46,8 +47,7 @@ def without_contracts(text):
         while depth:
             depth += {"{": 1, "}": -1}.get(text[at], 0)
             at += 1
-    text = "".join(kept) + text[at:]
-    return re.sub(r"^((?:pub )?(?:struct|enum) )", r"#[derive(Clone, Copy)]\n\1", text, flags=re.M)
+    return "".join(kept) + text[at:]
 
 
 def copy(crate, folder, change=None):

@@ -31,8 +31,8 @@ def matrix(name):
     return [[int(n) for n in re.findall(r"\d+", line)] for line in lines]
 
 
-ONSETS, NUCLEI, CODAS = rows("onsetRows"), rows("vowelRows"), rows("codaRows")
-ONSET_TO_VOWELS, VOWELS_TO_CODA = matrix("onsetToVowels"), matrix("vowelsToCoda")
+ONSETS, NUCLEI, CODAS = rows("onset_rows"), rows("vowel_rows"), rows("coda_rows")
+ONSET_TO_VOWELS, VOWELS_TO_CODA = matrix("onset_to_vowels"), matrix("vowels_to_coda")
 
 
 def cut(word):
@@ -124,19 +124,15 @@ def definitions(numbers):
     return f"""-- How the code holds things: no sentence of document 01 stands here, and no promise to a host leads here.
 -- The listed words as {len(numbers)} nodes. Written by tools/nodes.py from the rows; nothing is believed of these numbers:
 -- proofs/Numbering shows that the words are the accepted ones.
-use Prim.Native.Nat.{{ℕ, suc, _/_, _%_}}
-use mathlib.Core.Bool.{{true, false}}
-use mathlib.Core.List.{{List, [], _∷_}}
-use lib.Dec.{{eqb}}
-use lib.ListN.{{getD}}
-use Rattle·p5_trie.specs.Mirror.{{Trie, Node, Table, trieAt}}
+use Rattle.std.specs.Prelude.{{ℕ, suc, ◌/◌, ◌%◌, true, false, List, [], ◌∷◌, eqb, get_or}}
+use Rattle.p5_trie.specs.Mirror.{{Trie, Node, Table, trie_at}}
 
 -- how many nodes there are; as a node's number, none
-abbrev pub nodeCount : ℕ
-nodeCount = {len(numbers)}
+abbrev pub node_count : ℕ
+node_count = {len(numbers)}
 
-abbrev pub rootNode : ℕ
-rootNode = 0
+abbrev pub root_node : ℕ
+root_node = 0
 
 -- each node as one number, its entry
 unfoldable pub entries : List ℕ
@@ -144,38 +140,38 @@ entries =
 {lines(numbers, "{} ∷", 10)}
     []
 
-unfoldable pub entryAt : ℕ → ℕ
-entryAt e = getD entries e 0
+unfoldable pub entry_at : ℕ → ℕ
+entry_at e = get_or entries e 0
 
 -- the parts of an entry
-abbrev pub letterIn : ℕ → ℕ
-letterIn t = t / {LETTER}
+abbrev pub letter_in : ℕ → ℕ
+letter_in t = t / {LETTER}
 
-abbrev pub downIn : ℕ → ℕ
-downIn t = t / {DOWN} % {LETTER // DOWN}
+abbrev pub down_in : ℕ → ℕ
+down_in t = t / {DOWN} % {LETTER // DOWN}
 
-abbrev pub wordsIn : ℕ → ℕ
-wordsIn t = t / {WORDS} % {DOWN // WORDS}
+abbrev pub words_in : ℕ → ℕ
+words_in t = t / {WORDS} % {DOWN // WORDS}
 
-abbrev pub endIn : ℕ → ℕ
-endIn t = t / {END} % 2
+abbrev pub end_in : ℕ → ℕ
+end_in t = t / {END} % 2
 
-abbrev pub lastIn : ℕ → ℕ
-lastIn t = t % 2
+abbrev pub last_in : ℕ → ℕ
+last_in t = t % 2
 
 -- the node beside node e
-unfoldable pub nextTo : ℕ → ℕ → ℕ
-nextTo e t = elim (eqb (lastIn t) 1) [ true ↦ nodeCount | false ↦ suc e ]
+unfoldable pub next_to : ℕ → ℕ → ℕ
+next_to e t = elim (eqb (last_in t) 1) [ true ↦ node_count | false ↦ suc e ]
 
-unfoldable pub nodeIn : ℕ → ℕ → Node
-nodeIn e t = record {{ letter = letterIn t; ends = eqb (endIn t) 1; words = wordsIn t; down = downIn t; next = nextTo e t }}
+unfoldable pub node_in : ℕ → ℕ → Node
+node_in e t = record {{ letter = letter_in t; ends = eqb (end_in t) 1; words = words_in t; down = down_in t; next = next_to e t }}
 
 unfoldable pub nodes : Table
-nodes = record {{ count = nodeCount; at = λ e. nodeIn e (entryAt e) }}
+nodes = record {{ count = node_count; at = λ e. node_in e (entry_at e) }}
 
 -- the listed words
 unfoldable pub listing : Trie
-listing = trieAt nodes rootNode
+listing = trie_at nodes root_node
 """
 
 
@@ -183,8 +179,8 @@ def function(numbers):
     arms = "\n".join(f"        {i} => {n}," for i, n in enumerate(numbers))
     return f"""// The table of nodes that specs/Mirror.antt of p5_listing defines, as arms that the compiler makes a constant table of; one
 // function alone calls it, so that the table is read where it is used. Written by tools/nodes.py.
-ghost use mathlib.Core.Path.{{_≡_}};
-ghost use Rattle·p5_listing.specs.Mirror.{{entryAt}};
+ghost use Rattle.std.specs.Prelude.{{◌≡◌}};
+ghost use Rattle.p5_listing.specs.Mirror.{{entry_at}};
 
 // How many nodes there are; as a node's number, none.
 pub const COUNT: usize = {len(numbers)};
@@ -193,7 +189,7 @@ pub const ROOT: usize = 0;
 
 // The node's entry, 0 for none.
 pub fn entry(e: usize) -> u32
-    ensures {{ λ r. ⌜ r ≡ entryAt e ⌝ }}
+    ensures {{ result ≡ entry_at e }}
 {{
     match e {{
 {arms}
@@ -204,28 +200,30 @@ pub fn entry(e: usize) -> u32
 
 
 def proof(numbers):
-    arms = "\n".join(f"    (λ c. arm entryAt {n} _ {i} (c .match .keys{i + 1}) refl)" for i, n in enumerate(numbers))
+    goals = [(f"in-{i}", f"arm entry_at {n} _ {i} c.in-{i}.is refl") for i, n in enumerate(numbers)]
+    goals.append(("in_default", "none_there _ (past_table _ node_count _ c.in_default.in_default-own.rest)"))
+    answers = [f"pub returns-{name} : goal.returns-{name}\nunfolding entry_at entries\nreturns-{name} c = {answer}\n" for name, answer in goals]
     return f"""-- Each arm answers its number of the list. Written by tools/nodes.py.
-use Prim.Native.Nat.{{ℕ, _≤_}}
-use mathlib.Core.Path.{{_≡_, refl, sym}}
-use lib.ListN.{{List·getD-eq-default}}
-use Rattle·p0_choice.proofs.Arms.{{arm, past-table}}
-use Rattle·p5_listing.specs.Mirror.{{nodeCount, entries, entryAt}}
-use Rattle·p5_nodes·proofs.proofs.entry.Statement.{{statement}}
-use Rattle·p5_nodes·proofs.proofs.entry.Tie as tie
+use Prim.Native.Nat.{{ℕ, ◌≤◌}}
+use mathlib.Core.Path.{{◌≡◌, refl, sym}}
+use lib.ListN.{{get_or-eq_default}}
+use Rattle.p0_choice.proofs.Arms.{{arm, past_table}}
+use Rattle.p5_listing.specs.Mirror.{{node_count, entries, entry_at}}
+use Rattle.p5_nodes.proofs.entry.Goals as goal
 
-none-there : (e : ℕ) → nodeCount ≤ e → 0 ≡ entryAt e
-unfolding entryAt entries
-none-there e h = sym (List·getD-eq-default entries 0 h)
+none_there : (e : ℕ) → node_count ≤ e → 0 ≡ entry_at e
+unfolding entry_at entries
+none_there e h = sym (get_or-eq_default entries 0 h)
 
-pub entry-spec : {{M : Type 1}} → statement M
-unfolding entryAt entries
-entry-spec =
-    tie.close
-    (tie.spec
-{arms}
-    (λ c. none-there _ (past-table _ nodeCount _ (c .match .rest))))
-"""
+{chr(10).join(answers)}"""
+
+
+ASKS = "#![tactic(auto)]"
+
+
+def as_asked(text, stands):
+    """The text of a root file, with the line that has the check try its tactics where the file has it."""
+    return text.replace("\nghost use", f"\n{ASKS}\n\nghost use", 1) if ASKS in stands else text
 
 
 def main():
@@ -239,13 +237,15 @@ def main():
     for path, text in (
         ("crates/p5_listing/specs/Mirror.antt", definitions(numbers)),
         ("crates/p5_nodes/src/lib.rt", function(numbers)),
-        ("crates/p5_nodes/proofs/entry/Proof.antt", proof(numbers)),
+        ("crates/p5_nodes/proofs/entry/Answers.antt", proof(numbers)),
     ):
         file = HOME / path
+        stands = file.read_text() if file.exists() else ""
+        text = as_asked(text, stands)
         if "--check" not in sys.argv:
             file.parent.mkdir(parents=True, exist_ok=True)
             file.write_text(text)
-        elif not file.exists() or file.read_text() != text:
+        elif stands != text:
             stale.append(path)
     if stale:
         sys.exit("not as tools/nodes.py would write: " + " ".join(stale))

@@ -12,7 +12,7 @@ FN = re.compile(r'^[ \t]*(?P<pub>pub )?(?P<ext>extern "C" )?fn (?P<name>\w+)', r
 SIGNATURE = re.compile(r"(?:(?!\s(?:requires|ensures)\b)[^{])*")
 CLAUSE = re.compile(r"\s*(requires|ensures)\b\s*\w*\s*\{")
 # a part of the answer, where a fact tells what it is: the result or a field of it, or what a `&mut` holds at the end
-PART = r"(?:now )?r(?: \.[\w«»]+)*|now \([\w«»]+ \.exit\)"
+PART = r"result(?:\.[\w«»]+)*|[\w«»]+\.new"
 TOLD = re.compile(rf"(?P<left>{PART}) ≡ .*|.* ≡ (?P<right>{PART})")
 # a declaration of antt: a name, perhaps after marks, at the start of a line or inside a module
 NAME = re.compile(r"^ *(?:unfoldable |abbrev |pub )*(?:data |record )?(?P<name>[^\s:()]+)(?: \([^)]*\))* :", re.M)
@@ -24,8 +24,14 @@ def crates(root=ROOT):
     for line in (root / "crates.txt").read_text(encoding="utf-8").splitlines():
         line = line.split("#")[0]
         if ":" in line:
-            listed.append(line.split(":")[0].strip())
+            listed.append(line.split()[0].rstrip(":"))
     return list(dict.fromkeys(listed))
+
+
+def texts(root=ROOT):
+    """The files of Rattle and antt of all listed crates; what `rt` makes, out/, is none of them."""
+    found = [path for crate in crates(root) for part in ("src", "specs", "proofs") for path in (root / "crates" / crate / part).glob("**/*")]
+    return sorted(path for path in found if path.suffix in (".antt", ".rt"))
 
 
 class Function:
@@ -53,12 +59,8 @@ class Function:
     def open_answers(self):
         """What of the answer has no equation: the result, or what a `&mut` holds at the end."""
         told = self.told()
-        found = ["the result"] if self.result and not any(re.match(r"(?:now )?r\b", name) for name in told) else []
-        return found + [name for name in self.lent if f"now ({name} .exit)" not in told]
-
-    def weaker(self, other):
-        """Does it tell less than the other, or ask for more?"""
-        return bool(other.told() - self.told() or set(self.requires) - set(other.requires))
+        found = ["the result"] if self.result and not any(re.match(r"result\b", name) for name in told) else []
+        return found + [name for name in self.lent if f"{name}.new" not in told]
 
 
 def clauses(text, at):
@@ -78,7 +80,7 @@ def clauses(text, at):
 
 def facts(clause):
     """The facts of a clause, one for each side of an `×`, without the parentheses around it."""
-    found, todo = [], [re.sub(r"^λ \w+\. |⌜ | ⌝", "", clause)]
+    found, todo = [], [clause]
     while todo:
         text, depth, start, closed, parts = todo.pop(0).strip(), 0, 0, [], []
         for at, letter in enumerate(text):
@@ -97,11 +99,11 @@ def facts(clause):
     return found
 
 
-def functions(crate, root=ROOT, changed=lambda path, text: text):
-    """All functions of a crate, in the order of its files; or those of what `changed` makes of each file."""
+def functions(crate, root=ROOT):
+    """All functions of a crate, in the order of its files."""
     found = []
     for path in sorted((root / "crates" / crate).glob("src/**/*.rt")):
-        text = re.sub(r"//[^\n]*", "", changed(path, path.read_text(encoding="utf-8")))
+        text = re.sub(r"//[^\n]*", "", path.read_text(encoding="utf-8"))
         for match in FN.finditer(text):
             signature = SIGNATURE.match(text, match.end())
             said = clauses(text, signature.end())
@@ -142,7 +144,7 @@ LABEL = re.compile(r"[a-z0-9]+(_[a-z0-9]+)*")
 class Edit:
     """A wrong answer: `# FUNCTION, ..: the input that it answers wrongly`, then the replacements. In the place of a function a law
     may stand, where the edit is of a definition that the law is about. A line `crate: NAME` has the replacements after it made in a
-    crate below. A kept one has a line `# tried SUM`, of the text on which it was refused at a fact, or `# untried`."""
+    crate below. A kept one has a line `# tried SUM`, of the text on which it was refused, or `# untried`."""
 
     def __init__(self, crate, path, gate):
         self.crate = crate
@@ -172,25 +174,13 @@ class Edit:
         # The gate tries its own each time.
         self.stale = not gate and f"# tried {self.sum()}" not in lines
 
-    def changed(self, path, text):
-        """What it makes of a file of its crate."""
-        for where, file, old, new in self.replaced:
-            if path == ROOT / "crates" / where / (file or ""):
-                text = text.replace(old, new)
-        return text
-
-    def weaker(self, name):
-        """Does the contract of this function tell less with it, or ask for more?"""
-        before, after = ({found.name: found for found in functions(self.crate, changed=how)} for how in (lambda path, text: text, self.changed))
-        return name in before and name in after and after[name].weaker(before[name])
-
     def sum(self):
         """A sum of the text of the crate, and of those that the edit changes below it, and of what is replaced there."""
         text = " ".join(text_sum(crate) for crate in [self.crate, *self.below])
         return hashlib.sha256(f"{text} {self.replaced}".encode()).hexdigest()[:12]
 
     def mark(self):
-        """Writes down that the edit was refused at a fact, on the text as it is."""
+        """Writes down that the edit was refused, on the text as it is."""
         lines = self.path.read_text(encoding="utf-8").splitlines(keepends=True)
         lines = [line for line in lines if not re.match(r"# (?:un)?tried\b", line)]
         self.path.write_text("".join(lines[:1] + [f"# tried {self.sum()}\n"] + lines[1:]), encoding="utf-8")

@@ -5,15 +5,16 @@
   tools/tones.py --check    says whether they are what it would write (exit 1 if not)
   tools/tones.py --slots    prints the smallest factors that give each letter of the block a slot of its own
 
-The letters come from `toneBlock` in crates/p1_tone_block/specs/Mirror.antt, and so does the slot of a letter, `slotOf`. Nothing
+The letters come from `tone_block` in crates/p1_tone_block/specs/Mirror.antt, and so does the slot of a letter, `slot_of`. Nothing
 is believed of what is written: the proofs show that the arms are the block's."""
 import pathlib, re, sys
 
 HOME = pathlib.Path(__file__).resolve().parent.parent
 CRATE = HOME / "crates/p1_tone_block"
 MIRROR = (CRATE / "specs/Mirror.antt").read_text(encoding="utf-8")
-BLOCK = [ord(letter) for letter in re.search(r'^toneBlock = word "([^"]*)"$', MIRROR, re.M)[1]]
-SLOT = re.search(r"^slotOf x = (x % (\d+) \* (\d+) / (\d+) % (\d+))$", MIRROR, re.M)
+BLOCK = [ord(letter) for letter in re.search(r'^tone_block = word "([^"]*)"$', MIRROR, re.M)[1]]
+SLOT = re.search(r"^slot_of x = (x % (\d+) \* (\d+) / (\d+) % (\d+))$", MIRROR, re.M)
+ASKS = "#![tactic(auto)]"
 RANGE, FACTOR, PART, SLOTS = map(int, SLOT.groups()[1:])
 
 
@@ -35,15 +36,15 @@ def rows():
 def source():
     return f"""// The tones as one block of letters: twelve rows of a vowel and its five toned letters. A letter is found by its place, and a
 // place by its letter. The compiler makes constant tables of the arms. Written by tools/tones.py.
-ghost use mathlib.Core.Path.{{_≡_}};
-ghost use Rattle·p1_tone_block·specs.specs.Mirror.{{toneBlock, letterAt, placeIn, letterPlace}};
+ghost use Rattle.std.specs.Prelude.{{◌≡◌}};
+ghost use Rattle.p1_tone_block.specs.Mirror.{{tone_block, letter_at, place_in, letter_place}};
 
 // The places of a row: the vowel's, and one for each tone.
 pub const WIDTH: u8 = 6;
 
 // The letter at a place, 0 past the end.
 pub fn letter_at(place: u8) -> u16
-    ensures {{ λ r. ⌜ r ≡ letterAt place ⌝ }}
+    ensures {{ result ≡ letter_at place }}
 {{
     match place {{
 {chr(10).join(rows())}
@@ -53,7 +54,7 @@ pub fn letter_at(place: u8) -> u16
 
 // The place of the letter that has the slot, 0 where none has it.
 fn place_in(slot: u32) -> u8
-    ensures {{ λ r. ⌜ r ≡ placeIn 0 toneBlock slot ⌝ }}
+    ensures {{ result ≡ place_in 0 tone_block slot }}
 {{
     match slot {{
 {arms(map(slot, BLOCK), range(len(BLOCK)))}
@@ -64,34 +65,28 @@ fn place_in(slot: u32) -> u8
 // The place of a letter of the block, each of which has a slot of its own. What is no letter of the block has a slot too: the
 // letter at the place tells.
 pub fn letter_place(x: u32) -> u8
-    ensures {{ λ r. ⌜ r ≡ letterPlace x ⌝ }}
+    ensures {{ result ≡ letter_place x }}
 {{
     place_in({SLOT[1]})
 }}
 """
 
 
-def proof(function, meaning, opened, law):
-    """Of a function of arms: each answers what `meaning` has at its key."""
-    name = function.replace("_", "-")
-    shown = "\n".join(f"    (λ c. arm {meaning} _ _ _ (c .match .keys{number + 1}) refl)" for number in range(len(BLOCK)))
+def proof(function, meaning, opened, law, keys):
+    """The answers of a function of arms: each answers what `meaning` has at its key."""
+    goals = [(f"in-{key}", f"arm {meaning} _ _ _ c.in-{key}.is refl") for key in keys]
+    goals.append(("in_default", f"{law} _ _ c.in_default.in_default-own.rest"))
+    unfolding = f"unfolding {' '.join(opened)} word"
+    answers = [f"pub returns-{name} : goal.returns-{name}\n{unfolding}\nreturns-{name} c = {answer}\n" for name, answer in goals]
     return f"""-- Each arm answers what the block has. Written by tools/tones.py.
 use mathlib.Core.Path.{{refl}}
-use Rattle·p0_choice.specs.Text.{{word}}
-use Rattle·p0_choice.proofs.Arms.{{arm}}
-use Rattle·p1_tone_block·specs.specs.Mirror.{{{", ".join(opened)}}}
-use Rattle·p1_tone_block·proofs.proofs.Places.{{{law}}}
-use Rattle·p1_tone_block·proofs.proofs.{function}.Statement.{{statement}}
-use Rattle·p1_tone_block·proofs.proofs.{function}.Tie as tie
+use Rattle.p0_choice.specs.Text.{{word}}
+use Rattle.p0_choice.proofs.Arms.{{arm}}
+use Rattle.p1_tone_block.specs.Mirror.{{{", ".join(opened)}}}
+use Rattle.p1_tone_block.proofs.Places.{{{law}}}
+use Rattle.p1_tone_block.proofs.{function}.Goals as goal
 
-pub {name}-spec : {{M : Type 1}} → statement M
-unfolding {" ".join(opened)} word
-{name}-spec =
-    tie.close
-    (tie.spec
-{shown}
-    (λ c. {law} _ _ (c .match .rest)))
-"""
+{chr(10).join(answers)}"""
 
 
 def factors():
@@ -103,6 +98,11 @@ def factors():
                 break
 
 
+def as_asked(text, stands):
+    """The text of a root file, with the line that has the check try its tactics where the file has it."""
+    return text.replace("\nghost use", f"\n{ASKS}\n\nghost use", 1) if ASKS in stands else text
+
+
 def main():
     assert len(BLOCK) == 72 and len(set(map(slot, BLOCK))) == 72
     if "--slots" in sys.argv:
@@ -110,14 +110,22 @@ def main():
     stale = []
     for path, text in (
         ("src/lib.rt", source()),
-        ("proofs/letter_at/Proof.antt", proof("letter_at", "letterAt", ["letterAt", "toneBlock"], "past-block")),
-        ("proofs/place_in/Proof.antt", proof("place_in", "(placeIn 0 toneBlock)", ["placeIn", "slotOf", "toneBlock"], "no-slot")),
+        (
+            "proofs/letter_at/Answers.antt",
+            proof("letter_at", "letter_at", ["letter_at", "tone_block"], "past_block", range(len(BLOCK))),
+        ),
+        (
+            "proofs/place_in/Answers.antt",
+            proof("place_in", "(place_in 0 tone_block)", ["place_in", "slot_of", "tone_block"], "no_slot", map(slot, BLOCK)),
+        ),
     ):
         file = CRATE / path
+        stands = file.read_text(encoding="utf-8") if file.exists() else ""
+        text = as_asked(text, stands)
         if "--check" not in sys.argv:
             file.parent.mkdir(parents=True, exist_ok=True)
             file.write_text(text, encoding="utf-8")
-        elif not file.exists() or file.read_text(encoding="utf-8") != text:
+        elif stands != text:
             stale.append(str(file.relative_to(HOME)))
     if stale:
         sys.exit("not as tools/tones.py would write: " + " ".join(stale))

@@ -25,8 +25,8 @@ pub record Class : Type 0 where
   pub code : ℕ
   pub class : ℕ
 
-abbrev pub class_of : ℕ → ℕ → Class
-class_of c k = record { code = c; class = k }
+abbrev pub class_row : ℕ → ℕ → Class
+class_row c k = record { code = c; class = k }
 
 -- The simple case pairs. Every other letter of the alphabet is its own lower and upper case.
 unfoldable pub case_pairs : List Pair
@@ -266,12 +266,12 @@ decompositions =
 -- The marks of these decompositions. Every letter of the alphabet has class 0.
 unfoldable pub classes : List Class
 classes =
-    class_of 0x300 230 ∷  -- combining grave accent
-    class_of 0x301 230 ∷  -- combining acute accent
-    class_of 0x302 230 ∷  -- combining circumflex accent
-    class_of 0x303 230 ∷  -- combining tilde
-    class_of 0x306 230 ∷  -- combining breve
-    class_of 0x309 230 ∷  -- combining hook above
-    class_of 0x31b 216 ∷  -- combining horn
-    class_of 0x323 220 ∷  -- combining dot below
+    class_row 0x300 230 ∷  -- combining grave accent
+    class_row 0x301 230 ∷  -- combining acute accent
+    class_row 0x302 230 ∷  -- combining circumflex accent
+    class_row 0x303 230 ∷  -- combining tilde
+    class_row 0x306 230 ∷  -- combining breve
+    class_row 0x309 230 ∷  -- combining hook above
+    class_row 0x31b 216 ∷  -- combining horn
+    class_row 0x323 220 ∷  -- combining dot below
     []
