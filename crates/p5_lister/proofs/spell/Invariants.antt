@@ -1,0 +1,15 @@
+use Prim.Native.Nat.{◌-◌}
+use mathlib.Core.List.{◌++◌}
+use lib.ListN.{take}
+use Rattle.p4_spelling.specs.Verdict.{longest_length}
+use Rattle.p5_trie.specs.Mirror.{nth, trie_at}
+use Rattle.p5_trie.proofs.Spell.{Spell}
+use Rattle.p5_listing.specs.Mirror.{nodes}
+use Rattle.p5_lister.proofs.spell.Given as goal
+
+abbrev pub invariant-loop-node : goal.invariant-loop-node
+invariant-loop-node l =
+    Spell nodes longest_length (take l.at l.initial.out ++ nth (trie_at nodes l.from) l.n) l.out l.len l.node l.left
+
+abbrev pub decreases-loop-node : goal.decreases-loop-node
+decreases-loop-node l = longest_length - l.len

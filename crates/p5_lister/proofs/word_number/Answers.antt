@@ -1,0 +1,23 @@
+use mathlib.Core.Path.{refl}
+use native.Mathlib.Omega.{arith}
+use borrow.Author.Rules.{rules}
+use lib.ListN.{take}
+use Rattle.p5_listing.proofs.Computed.{size_listing}
+use Rattle.p5_listing.proofs.Numbering.{lists}
+use Rattle.p5_lister.proofs.Reading.{root_size, root_depth, root_word}
+use Rattle.p5_lister.proofs.Answers.{beyond, numbered}
+use Rattle.p5_lister.proofs.word_number.Goals as goal
+
+ruleset answers = (rules, refl)
+
+pub returns-then-n-ge-TOTAL : goal.returns-then-n-ge-TOTAL
+returns-then-n-ge-TOTAL c = beyond lists _ _ _ c.args.n (omega (arith, c.if-n-ge-TOTAL.true, size_listing)) (search answers) (search answers)
+
+pub spell-word-requires : goal.spell-word-requires
+spell-word-requires c = (omega arith, omega (arith, c.if-n-ge-TOTAL.false, root_size), omega (arith, root_depth))
+
+pub returns : goal.returns
+returns c = let w : tie.After-spell = c in
+    let n = w.before.before.before.args.n in
+    numbered lists _ _ _ n (omega (arith, w.before.if1.false, size_listing)) (take w.spell.result.len w.spell.result.letters)
+    (root_word _ n _ w.spell.ensures.1 (search answers)) (search answers) (search answers)

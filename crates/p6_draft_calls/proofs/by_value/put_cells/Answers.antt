@@ -1,0 +1,25 @@
+use borrow.Author.Rules.{rules}
+use Prim.Native.Nat.{◌-◌}
+use Rattle.p3_cells.proofs.Text.{length_under}
+use Rattle.p6_draft.proofs.Writing.{cells_start, cells_on, used_done}
+use Rattle.p6_draft_calls.proofs.by_value.put_cells.Goals as goal
+
+ruleset answers = (rules, length_under, cells_start, cells_on, used_done)
+
+pub loop-i-init : goal.loop-i-init
+loop-i-init c = search answers
+
+pub put_cell-requires : goal.put_cell-requires
+put_cell-requires c = search answers
+
+pub loop-i-smaller : goal.loop-i-smaller
+loop-i-smaller c = search answers
+
+pub loop-i-preserved : goal.loop-i-preserved
+loop-i-preserved c = search answers
+
+pub shape_of-draft : goal.shape_of-draft
+shape_of-draft c = search answers
+
+pub returns : goal.returns
+returns c = search answers

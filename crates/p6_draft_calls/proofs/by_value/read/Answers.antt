@@ -1,0 +1,14 @@
+use borrow.Author.Rules.{rules}
+use Rattle.p6_draft.proofs.Exact.{passed}
+use Rattle.p6_draft_calls.proofs.Reading.{read_refused, read_given}
+use Rattle.p6_draft_calls.proofs.by_value.read.Goals as goal
+
+pub returns-then-not-is_draft : goal.returns-then-not-is_draft
+returns-then-not-is_draft c = read_refused _ _ _ c.is_draft.ensures (search rules)
+
+pub composition-d-requires : goal.composition-d-requires
+composition-d-requires c = search passed
+
+pub returns : goal.returns
+returns c = let t : tie.After-is-draft = c in
+    read_given _ _ _ t.is-draft.ensures _ (search rules) t.before.shared-slice-known.given c.composition-d.ensures
