@@ -36,3 +36,9 @@ shape_of-draft c = search answers
 
 pub returns : goal.returns
 returns c = search answers
+
+pub overflow_mul-m : goal.overflow_mul-m
+overflow_mul-m c = search answers
+
+pub overflow_add-m : goal.overflow_add-m
+overflow_add-m c = search answers

@@ -43,3 +43,24 @@ shape_of-state c = search answers
 
 pub returns : goal.returns
 returns c = search answers
+
+pub bounds-draft-3 : goal.bounds-draft-3
+bounds-draft-3 c = search answers
+
+pub bounds-draft-7 : goal.bounds-draft-7
+bounds-draft-7 c = search answers
+
+pub overflow_cast-state : goal.overflow_cast-state
+overflow_cast-state c = search answers
+
+pub overflow_mul-state : goal.overflow_mul-state
+overflow_mul-state c = search answers
+
+pub overflow_add-state : goal.overflow_add-state
+overflow_add-state c = search answers
+
+pub overflow_add-state-2 : goal.overflow_add-state-2
+overflow_add-state-2 c = search answers
+
+pub bounds-draft-n : goal.bounds-draft-n
+bounds-draft-n c = search answers

@@ -30,3 +30,18 @@ shape_of-draft c = search answers
 
 pub returns : goal.returns
 returns c = search answers
+
+pub bounds-state-0 : goal.bounds-state-0
+bounds-state-0 c = search answers
+
+pub bounds-state-1 : goal.bounds-state-1
+bounds-state-1 c = search answers
+
+pub bounds-state-3 : goal.bounds-state-3
+bounds-state-3 c = search answers
+
+pub overflow_mul-m : goal.overflow_mul-m
+overflow_mul-m c = search answers
+
+pub overflow_add-m : goal.overflow_add-m
+overflow_add-m c = search answers
