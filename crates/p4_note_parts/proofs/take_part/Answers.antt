@@ -1,3 +1,4 @@
+use native.Mathlib.Omega.{arith}
 use borrow.Author.Rules.{rules}
 use Prim.Native.Nat.{◌-◌}
 use Rattle.p0_choice.proofs.Choices.{picks}
@@ -46,13 +47,24 @@ pub end-requires : goal.end-requires
 end-requires c = search answers
 
 pub returns-in-Foreign : goal.returns-in-Foreign
-returns-in-Foreign c = search answers
+returns-in-Foreign c =
+    on_foreign _ _ _ _ c.loop-i.invariant _ c.loop-i-test.true c.take-taken.ensures _ c.in-Foreign.is c.end.ensures
 
 pub end-requires-in-Long : goal.end-requires-in-Long
 end-requires-in-Long c = search answers
 
 pub returns-in-Long : goal.returns-in-Long
-returns-in-Long c = search answers
+returns-in-Long c =
+    on_long _ _ _ _ c.loop-i.invariant _ c.loop-i-test.true c.take-taken.ensures _ c.in-Long.is c.end-in-Long.ensures
 
 pub returns : goal.returns
 returns c = search answers
+
+pub overflow_add-s : goal.overflow_add-s
+overflow_add-s c = one_more _ c.loop-i.invariant.sound _ (omega arith)
+
+pub overflow_add-s-in-Letter : goal.overflow_add-s-in-Letter
+overflow_add-s-in-Letter c = one_more _ c.loop-i.invariant.sound _ (omega arith)
+
+pub overflow_add-s-in-Letter-2 : goal.overflow_add-s-in-Letter-2
+overflow_add-s-in-Letter-2 c = one_more _ c.loop-i.invariant.sound _ (run_within _ c.loop-i.invariant.sound)
