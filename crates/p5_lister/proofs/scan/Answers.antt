@@ -15,7 +15,7 @@ loop-node-init c = begin nodes c.args.from c.args.y c.args.most (rw count_is c.r
 pub returns-then-y-letter_in : goal.returns-then-y-letter_in
 returns-then-y-letter_in c = record {
   passed = c.loop-node.invariant;
-  result_value = λ h. (
+  halted = λ h. (
     c.entry-entry.ensures,
     halting _ _ c.entry-entry.ensures _ _ _ _ c.letter_in.ensures c.words_in-through.ensures (inl c.if-y-letter_in.true),
   );
@@ -24,7 +24,7 @@ returns-then-y-letter_in c = record {
 pub returns-then-left-through : goal.returns-then-left-through
 returns-then-left-through c = record {
   passed = c.loop-node.invariant;
-  result_value = λ h. (
+  halted = λ h. (
     c.entry-entry.ensures,
     halting _ _ c.entry-entry.ensures _ _ _ _ c.letter_in.ensures c.words_in-through.ensures (inr c.if-left-through.true),
   );
@@ -36,7 +36,7 @@ returns-then-last_in-eq1 c = record {
       passed_last _ _ c.entry-entry.ensures _ _ _ _ c.letter_in.ensures c.words_in-through.ensures _ _ c.loop-node.invariant
       c.loop-node-test.true (omega (arith, c.if-y-letter_in.false)) c.if-left-through.false
       (omega (arith, c.if-last_in-eq1.true, c.last_in.ensures));
-  result_value = λ h. absurd (omega arith);
+  halted = λ h. absurd (omega arith);
 }
 
 pub loop-node-preserved : goal.loop-node-preserved
@@ -48,5 +48,5 @@ loop-node-preserved c =
 pub returns : goal.returns
 returns c = record {
   passed = c.loop-node.invariant;
-  result_value = λ h. absurd (omega (arith, c.loop-node-test.false));
+  halted = λ h. absurd (omega (arith, c.loop-node-test.false));
 }

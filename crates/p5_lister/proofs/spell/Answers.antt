@@ -1,14 +1,20 @@
 -- The walk's invariant; each turn is a law of p5_trie's proofs/Spell.
-use Prim.Native.Nat.{◌-◌, ◌<◌}
+use Prim.Native.Nat.{ℕ, ◌-◌, ◌<◌}
 use mathlib.Core.Path.{◌≡◌, refl, ◌∙◌}
+use mathlib.Core.List.{List}
 use native.Mathlib.Omega.{arith}
 use borrow.Author.Rules.{rules}
 use Rattle.p4_spelling.specs.Verdict.{longest_length}
-use Rattle.p5_trie.proofs.Spell.{some_node, inside, has_room, ended, went_down}
-use Rattle.p5_listing.specs.Mirror.{node_count, entry_at}
+use Rattle.p5_trie.proofs.Spell.{Spell, some_node, inside, has_room, ended, went_down}
+use Rattle.p5_trie.proofs.Scan.{Passed}
+use Rattle.p5_listing.specs.Mirror.{node_count, nodes}
 use Rattle.p5_listing.proofs.Nodes.{count_is, sound, letter_is, end_is, down_is}
 use Rattle.p5_lister.proofs.Reading.{fewer}
 use Rattle.p5_lister.proofs.spell.Goals as goal
+
+-- where a scan stops, a node stands
+there : {v out : List ℕ} {len e k y b rest : ℕ} → Spell nodes longest_length v out len e k → Passed nodes e y k b rest → b < node_count
+there q p = rw (← count_is) (inside q sound p)
 
 pub loop-node-init : goal.loop-node-init
 loop-node-init c = record {
@@ -36,7 +42,7 @@ loop-node-smaller c = omega (arith, has_room c.loop-node.invariant sound c.scan-
 
 pub returns-then-left-ends : goal.returns-then-left-ends
 returns-then-left-ends c =
-    let r = c.scan-halt.ensures.result_value (there c.loop-node.invariant c.scan-halt.ensures.passed) in (
+    let r = c.scan-halt.ensures.halted (there c.loop-node.invariant c.scan-halt.ensures.passed) in (
       omega (arith, has_room c.loop-node.invariant sound c.scan-halt.ensures.passed),
       ended c.loop-node.invariant sound c.scan-halt.ensures.passed _ _ (c.letter_in.ensures ∙ letter_is _ _ r.0)
           (c.end_in-ends.ensures ∙ end_is _ _ r.0) c.if-left-ends.true,
@@ -45,7 +51,7 @@ returns-then-left-ends c =
 pub loop-node-preserved : goal.loop-node-preserved
 loop-node-preserved c =
     let h = there c.loop-node.invariant c.scan-halt.ensures.passed in
-    let r = c.scan-halt.ensures.result_value h in
+    let r = c.scan-halt.ensures.halted h in
     went_down c.loop-node.invariant sound c.scan-halt.ensures.passed _ _ (c.letter_in.ensures ∙ letter_is _ _ r.0)
     (c.end_in-ends.ensures ∙ end_is _ _ r.0) _ (c.down_in-node.ensures ∙ down_is _ _ r.0) (fewer _ _ h r.1) c.if-left-ends.false
 

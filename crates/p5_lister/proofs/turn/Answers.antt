@@ -26,14 +26,14 @@ returns-then-there-eq-COUNT c =
 pub returns-then-y-letter_in : goal.returns-then-y-letter_in
 returns-then-y-letter_in c =
     let h = there _ c.scan-halt.ensures.passed.small c.if-there-eq-COUNT.false in
-    let r = c.scan-halt.ensures.result_value h in
+    let r = c.scan-halt.ensures.halted h in
     stopped_there c.loop-i.invariant sound c.loop-i-test.true c.scan-halt.ensures.passed (rw count_is h)
     (rw (← letter_is _ _ r.0, ← c.letter_in.ensures) c.if-y-letter_in.true)
 
 pub loop-i-preserved-then-last_in-eq1 : goal.loop-i-preserved-then-last_in-eq1
 loop-i-preserved-then-last_in-eq1 c =
     let h = there _ c.scan-halt.ensures.passed.small c.if-there-eq-COUNT.false in
-    let r = c.scan-halt.ensures.result_value h in
+    let r = c.scan-halt.ensures.halted h in
     going c.loop-i.invariant sound c.loop-i-test.true c.scan-halt.ensures.passed (rw count_is h) r.1
     (rw (← letter_is _ _ r.0, ← c.letter_in.ensures) c.if-y-letter_in.false) _ (c.down_in-node.ensures ∙ down_is _ _ r.0)
     (omega (arith, count_is, next_none _ _ r.0 (sym c.last_in.ensures ∙ c.if-last_in-eq1.true)))
@@ -44,7 +44,7 @@ overflow_add-back c = omega (arith, there _ c.scan-halt.ensures.passed.small c.i
 pub loop-i-preserved : goal.loop-i-preserved
 loop-i-preserved c =
     let h = there _ c.scan-halt.ensures.passed.small c.if-there-eq-COUNT.false in
-    let r = c.scan-halt.ensures.result_value h in
+    let r = c.scan-halt.ensures.halted h in
     keeping c.loop-i.invariant sound c.loop-i-test.true c.scan-halt.ensures.passed (rw count_is h) r.1
     (rw (← letter_is _ _ r.0, ← c.letter_in.ensures) c.if-y-letter_in.false) _
     (c.down_in-node-else-last_in-eq1.ensures ∙ down_is _ _ r.0) _
