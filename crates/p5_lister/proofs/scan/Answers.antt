@@ -1,5 +1,4 @@
 -- The scan's invariant; each turn is a law of proofs/Reading.
-use Prim.Native.Nat.{◌-◌}
 use mathlib.Core.Path.{◌∙◌}
 use mathlib.Core.Logic.{inl, inr}
 use native.Mathlib.Omega.{arith}

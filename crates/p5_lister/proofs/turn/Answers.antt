@@ -1,9 +1,9 @@
 -- The walk's invariant; each turn is a law of p5_trie's proofs/Turn.
-use Prim.Native.Nat.{ℕ, ◌-◌, ◌<◌, ◌≤◌}
+use Prim.Native.Nat.{ℕ, ◌<◌, ◌≤◌}
 use mathlib.Core.Path.{◌≡◌, sym, ◌∙◌}
 use native.Mathlib.Omega.{arith}
 use Rattle.p5_trie.proofs.Turn.{start, ended_back, ended_here, none_there, stopped_there, keeping, going}
-use Rattle.p5_listing.specs.Mirror.{node_count, entry_at, nodes}
+use Rattle.p5_listing.specs.Mirror.{node_count, nodes}
 use Rattle.p5_listing.proofs.Nodes.{count_is, sound, letter_is, down_is, next_none, next_on, next_some}
 use Rattle.p5_lister.proofs.turn.Goals as goal
 
