@@ -74,7 +74,7 @@ struct Halt {
 fn scan(from: usize, y: u32, most: usize) -> Halt
     requires { from ≤ node_count }
     ensures passed { Passed nodes from y most result.node result.left }
-    ensures result_value { result.node < node_count → (result.entry ≡ entry_at result.node) × Halts nodes y result.node result.left }
+    ensures halted { result.node < node_count → (result.entry ≡ entry_at result.node) × Halts nodes y result.node result.left }
 {
     let mut node = from;
     let mut left = most;

@@ -6,11 +6,11 @@ use Rattle.p5_lister.proofs.give.Goals as goal
 ruleset answers = (rules, refl)
 
 pub returns-then-out-len : goal.returns-then-out-len
-returns-then-out-len c = let s : tie.Start = c in
-    no_room _ s.args.word.letters s.args.word.len (search answers) (search answers) _ _ (search answers) (search answers)
+returns-then-out-len c =
+    no_room _ c.args.word.letters c.args.word.len (search answers) (search answers) _ _ (search answers) (search answers)
     (search answers)
 
 pub returns : goal.returns
-returns c = let s : tie.Start = c in
-    with_room _ s.args.word.letters s.args.word.len (search answers) (search answers) _ _ (search answers) (search answers)
+returns c =
+    with_room _ c.args.word.letters c.args.word.len (search answers) (search answers) _ _ (search answers) (search answers)
     (search answers)

@@ -1,4 +1,3 @@
-use Prim.Native.Nat.{◌-◌}
 use mathlib.Core.Path.{◌≡◌, refl}
 use native.Mathlib.Omega.{arith}
 use borrow.Author.Rules.{rules}
@@ -7,15 +6,13 @@ use Rattle.p4_spelling.specs.Verdict.{longest_length}
 use Rattle.p5_lister.proofs.Copy.{copy_more}
 use Rattle.p5_lister.proofs.put.Goals as goal
 
-eight : (c : goal.Start) → length c.args.letters ≡ longest_length
-eight c = search rules
-
 pub loop-i-init : goal.loop-i-init
 loop-i-init c = record { within = omega arith; kept = refl; is = refl }
 
 pub loop-i-preserved : goal.loop-i-preserved
-loop-i-preserved c = let s : tie.Start invariant-loop decreases-loop = c in
-    copy_more s.args.t1 s.args.out.now s.args.n c.loop-i.out c.loop-i.i (omega (arith, eight s))
+loop-i-preserved c =
+    let eight : length c.args.letters ≡ longest_length = search rules in
+    copy_more c.args.letters c.args.out.now c.args.n c.loop-i.out c.loop-i.i (omega (arith, eight))
     (omega arith) c.loop-i-test.true c.loop-i.invariant
 
 pub shape_of-out : goal.shape_of-out

@@ -17,7 +17,7 @@ pub spell-word-requires : goal.spell-word-requires
 spell-word-requires c = (omega arith, omega (arith, c.if-n-ge-TOTAL.false, root_size), omega (arith, root_depth))
 
 pub returns : goal.returns
-returns c = let w : tie.After-spell = c in
-    let n = w.before.before.before.args.n in
-    numbered lists _ _ _ n (omega (arith, w.before.if1.false, size_listing)) (take w.spell.result.len w.spell.result.letters)
-    (root_word _ n _ w.spell.ensures.1 (search answers)) (search answers) (search answers)
+returns c =
+    numbered lists _ _ _ c.args.n (omega (arith, c.if-n-ge-TOTAL.false, size_listing))
+    (take c.spell-word.result.len c.spell-word.result.letters) (root_word _ c.args.n _ c.spell-word.ensures.1 (search answers))
+    (search answers) (search answers)
