@@ -20,13 +20,13 @@ loop-i-preserved-then-b-eq10 c = let l = c.loop-i in
     let h = c.loop-i-test.true in
     let q = c.if-b-eq10.true in
     let f = rw c.first_bytes-then-b-eq10.ensures at c.end_phase-phase.ensures in
-    let e = rw c.first_bytes.ensures at c.end_out_lem.ensures.0 in
-    let w = rw c.first_bytes.ensures at c.end_out_lem.ensures.2 in (
+    let e = rw c.first_bytes.ensures at c.end_out-n.ensures.0 in
+    let w = rw c.first_bytes.ensures at c.end_out-n.ensures.2 in (
       search rules,
       search rules,
-      c.end_out_lem.auto.1.1.0 ∙ l.invariant.2,
+      c.end_out-n.auto.out ∙ l.invariant.2,
       search rules,
-      omega (arith, c.end_out_lem.ensures.1),
+      omega (arith, c.end_out-n.ensures.1),
       to_end _ (take l.len l.line) l.phase part l.i h _ refl l.invariant.5 q _ f,
       out_end _ (take l.len l.line) l.phase part l.i h _ refl l.invariant.5 q _ f l.out _ l.n _ (omega arith) e w
           l.invariant.6,
@@ -76,7 +76,8 @@ returns c = let l = c.loop-i in
     let d = drop_of_length-le part k in
     let to : run_to _ part ≡ state (take l.len l.line) l.phase = l.invariant.5 ∙ rw d refl in
     let out = printed l.out _ _ l.n (omega arith) (l.invariant.6 ∙ rw d (append-nil (take l.n l.out))) l.invariant.8 in
-    let len = length-take-le l.len l.line (omega arith) in (
-      (rw (to, len, ← out.0) refl, search rules, search rules),
-      ((sym to, line_laid _ l.line l.len part l.i k l.invariant.7), out.1),
-    )
+    let len = length-take-le l.len l.line (omega arith) in record {
+      value = (rw (to, len, ← out.0) refl, search rules, search rules);
+      held = (sym to, line_laid _ l.line l.len part l.i k l.invariant.7);
+      printed = out.1;
+    }
