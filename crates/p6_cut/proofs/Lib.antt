@@ -1,3 +1,2 @@
 pub mod CutPlaces
-pub mod Parts
 pub mod Only
