@@ -38,7 +38,6 @@ struct Took {
 }
 
 // What a read gave, by its answer.
-#[tactic(auto, using(crate::proofs::Turns::interrupted, crate::proofs::Turns::failed, crate::proofs::Turns::no_more, crate::proofs::Turns::some))]
 fn input_of(said: io::Result<usize>, part: &[u8]) -> Input
     ensures { result ≡ input_of said (length part.now) }
 {
