@@ -1,18 +1,10 @@
 -- What a read gave, and what the turns together have come to.
-use Prim.Native.Nat.{ℕ, ◌≤◌}
-use mathlib.Core.Path.{◌≡◌, refl, sym, ap, ◌∙◌}
-use mathlib.Core.Bool.{Bool, true, false, not}
-use mathlib.Core.List.{List, [], ◌∷◌, ◌++◌}
-use native.Mathlib.Omega.{arith}
-use lib.Dec.{eqb}
-use lib.IntN.{ℤ, pos, negsuc}
-use lib.Signed.{lt_z}
-use lib.ListN.{length, take, length-take}
-use borrow.Author.Tests.{eq-eqb, ne_eqb, ltb-true, not-true, not-false}
-use mir.Syntax.{w32, w64}
-use mir.Val.{SFits, to_z, of_z}
-use mir.ValLaws.{to_z-of_z}
-use Rattle.io.specs.Counts.{clamp_len}
+use Rattle.std.proofs.Common.{ℕ, ◌≡◌, refl, sym, ap, ◌∙◌, Bool, true, false, not, List, [], ◌∷◌, ◌++◌, eqb, ℤ, pos, negsuc, int_eq, take, min, Option, None, Some, Result, Ok, Err, ne_eqb}
+use Rattle.std.specs.Option.{option_eq}
+use Rattle.std.specs.IoError.{raw_os_error}
+use Rattle.std.specs.declared.io.Error.{Error}
+use Rattle.std.proofs.lemmas.Bool.Decides.{same_from_decides, Decides-like, Decides-eqb, Decides-int_eq}
+use borrow.Author.Tests.{not-true, not-false}
 use Rattle.p0_choice.specs.Choice.{pick}
 use Rattle.p0_refusals.specs.Answers.{onto}
 use Rattle.p2_input_method.specs.declared.InputMethod.{InputMethod}
@@ -26,47 +18,38 @@ use Rattle.p7_wordline.specs.declared.Input.TheVariants.{Bytes, NoMore, Interrup
 use Rattle.p7_wordline.specs.declared.Took.{Took}
 use Rattle.p7_wordline.specs.Mirror.{failure, input_of, amount, bytes_read, is_over, may_read, goes_on, Came}
 
--- ---- what a read gave; a signed number is compared by its bits
-module _ (said error : ℤ) (n : ℕ) (f : SFits w64 said) where
-  module _ (q : lt_z (to_z w64 (of_z w64 said)) (pos 0) ≡ true) where
-    negative : (r : Input) → r ≡ failure error → r ≡ input_of said error n
+-- the test of the error's number is the definition's
+same_number : (k : ℕ) → eqb k 4 ≡ int_eq (pos k) (pos 4)
+same_number k =
+    same_from_decides _ _ (Decides-like (eqb k 4) (λ (e : k ≡ 4). ap pos e) (λ (e : pos k ≡ pos 4). cc) (Decides-eqb k 4))
+    (Decides-int_eq (pos k) (pos 4))
+
+by_test : (z : Option ℤ) → failure z ≡ pick (option_eq int_eq z (Some (pos 4))) Interrupted Failed
+unfolding failure
+by_test None = refl
+by_test (Some (pos k)) = rw same_number refl
+by_test (Some (negsuc k)) = refl
+
+-- ---- what a read gave
+module _ (said : Result ℕ Error) (n : ℕ) where
+  pub no_more : (k : ℕ) → said ≡ Ok k → k ≡ 0 → NoMore ≡ input_of said n
+  unfolding input_of
+  no_more k e q = rw (e, q) refl
+
+  pub some : (k c : ℕ) → said ≡ Ok k → (k ≡ 0 → ⊥) → c ≡ min k n → Bytes c ≡ input_of said n
+  unfolding input_of
+  some k c e h m = rw (e, ne_eqb k 0 h, m) refl
+
+  module _ (error : Error) (number : Option ℤ) (e : said ≡ Err error) (r : number ≡ raw_os_error error) where
+    by_number : failure number ≡ input_of said n
     unfolding input_of
-    negative r e = go said (ap (λ (z : ℤ). lt_z z (pos 0)) (sym (to_z-of_z w64 said f)) ∙ q)
-      where
-        go : (z : ℤ) → lt_z z (pos 0) ≡ true → r ≡ input_of z error n
-        go (pos k) h = absurd (omega (arith, ltb-true k 0 h))
-        go (negsuc k) h = e
+    by_number = rw (e, r) refl
 
-    pub interrupted : SFits w32 error → of_z w32 error ≡ 4 → Interrupted ≡ input_of said error n
-    unfolding failure
-    interrupted g e = negative Interrupted (rw (sym (to_z-of_z w32 error g) ∙ ap (to_z w32) e) refl)
+    pub interrupted : true ≡ option_eq int_eq number (Some (pos 4)) → Interrupted ≡ input_of said n
+    interrupted q = rw (← by_number, by_test number, ← q) refl
 
-    pub failed : (of_z w32 error ≡ 4 → ⊥) → Failed ≡ input_of said error n
-    unfolding failure
-    failed h = negative Failed (go error h)
-      where
-        go : (z : ℤ) → (of_z w32 z ≡ 4 → ⊥) → Failed ≡ failure z
-        go (pos k) h = rw (ne_eqb k 4 h) refl
-        go (negsuc k) h = refl
-
-  module _ (q : lt_z (to_z w64 (of_z w64 said)) (pos 0) ≡ false) where
-    from_zero : (r : Input) → ((k : ℕ) → said ≡ pos k → r ≡ pick (eqb k 0) NoMore (Bytes (clamp_len said n))) → r ≡ input_of said error n
-    unfolding input_of
-    from_zero r e = go said (ap (λ (z : ℤ). lt_z z (pos 0)) (sym (to_z-of_z w64 said f)) ∙ q) e
-      where
-        go : (z : ℤ) → lt_z z (pos 0) ≡ false → ((k : ℕ) → z ≡ pos k → r ≡ pick (eqb k 0) NoMore (Bytes (clamp_len z n)))
-            → r ≡ input_of z error n
-        go (pos k) h e = e k refl
-        go (negsuc k) h e = let z : ◌≡◌ {A = Bool} true false = h in absurd (cc_no z)
-          where
-            cc_no : ◌≡◌ {A = Bool} true false → ⊥
-            cc_no z = let y : ◌≡◌ {A = ℕ} 0 1 = cc in omega arith
-
-    pub no_more : of_z w64 said ≡ 0 → NoMore ≡ input_of said error n
-    no_more e = from_zero NoMore (λ k p. rw (eq-eqb k 0 (ap (of_z w64) (sym p) ∙ e)) refl)
-
-    pub some : (of_z w64 said ≡ 0 → ⊥) → (z : ℤ) (c : ℕ) → c ≡ clamp_len z n → z ≡ said → Bytes c ≡ input_of said error n
-    some h z c e i = from_zero (Bytes c) (λ k p. rw (ne_eqb k 0 (λ (j : k ≡ 0). h (ap (of_z w64) p ∙ j)), e, i) refl)
+    pub failed : false ≡ option_eq int_eq number (Some (pos 4)) → Failed ≡ input_of said n
+    failed q = rw (← by_number, by_test number, ← q) refl
 
 module _ (input : Input) where
   pub amount_bytes : (k : ℕ) → input ≡ Bytes k → k ≡ amount input
@@ -86,9 +69,6 @@ module _ (input : Input) where
   amount_failed e = rw e refl
 
 -- ---- a turn: what is handed on is what the read left
-pub part_fits : (input : Input) (k m n : ℕ) (part p : List ℕ) → k ≡ amount input → length part ≡ m → p ≡ take k part → m ≡ n → length p ≤ n
-part_fits input k m n part p a l e h = rw (e, length-take) (omega arith)
-
 module _ (input : Input) (k : ℕ) (part p : List ℕ) (e : k ≡ amount input) (q : p ≡ take k part) where
   given : p ≡ bytes_read input part
   unfolding bytes_read

@@ -1,6 +1,8 @@
 -- How the code holds things: no sentence of document 01 stands here, and no promise to a host leads here.
 -- The turns of the program: a read, and what its bytes hold and print.
-use Rattle.std.specs.Prelude.{ℕ, min, ◌≡◌, Bool, true, false, List, [], eqb, ℤ, pos, negsuc, take}
+use Rattle.std.specs.Prelude.{ℕ, min, ◌≡◌, Bool, true, false, List, [], eqb, ℤ, pos, negsuc, take, Option, None, Some, Result, Ok, Err}
+use Rattle.std.specs.IoError.{raw_os_error}
+use Rattle.std.specs.declared.io.Error.{Error}
 use Rattle.p0_choice.specs.Choice.{pick}
 use Rattle.p7_feed.specs.Mirror.{state, state_of, parts_to}
 use Rattle.p7_feed.specs.declared.Carry.{Carry}
