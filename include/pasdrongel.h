@@ -28,9 +28,10 @@ extern "C" {
 #define PASDRONGEL_VERSION \
     (PASDRONGEL_VERSION_MAJOR * 1000000 + PASDRONGEL_VERSION_MINOR * 1000 + PASDRONGEL_VERSION_PATCH)
 
-/* The platform. The library is position-independent code for x86-64, with the calling convention of Linux (System V). Of the
- * C library it needs memcpy and memset, and nothing else. It has no data that is ever written: calls may run at the same
- * time, in threads or in a handler of signals, where what one of them writes is lent to no other. */
+/* The platform. The library is position-independent code for x86-64, with the calling convention of Linux (System V). It may
+ * use what x86-64-v2 has, SSE up to 4.2 and POPCNT, and does not test for it. Of the C library it needs memcpy and memset, and
+ * nothing else. It has no data that is ever written: calls may run at the same time, in threads or in a handler of signals,
+ * where what one of them writes is lent to no other. */
 
 /* No call but one takes more bytes of stack than this, counted from its return address on, memcpy and memset included. A loader
  * that binds these two at their first call takes its own then; a program that is linked with -z now has none.

@@ -179,6 +179,8 @@ def function(numbers):
     arms = "\n".join(f"        {i} => {n}," for i, n in enumerate(numbers))
     return f"""// The table of nodes that specs/Mirror.antt of p5_listing defines, as arms that the compiler makes a constant table of; one
 // function alone calls it, so that the table is read where it is used. Written by tools/nodes.py.
+#![tactic(auto)]
+
 ghost use Rattle.std.specs.Prelude.{{◌≡◌}};
 ghost use Rattle.p5_listing.specs.Mirror.{{entry_at}};
 
@@ -218,14 +220,6 @@ none_there e h = sym (get_or-eq_default entries 0 h)
 {chr(10).join(answers)}"""
 
 
-ASKS = "#![tactic(auto)]"
-
-
-def as_asked(text, stands):
-    """The text of a root file, with the line that has the check try its tactics where the file has it."""
-    return text.replace("\nghost use", f"\n{ASKS}\n\nghost use", 1) if ASKS in stands else text
-
-
 def main():
     listed = words()
     numbers = entries(listed)
@@ -240,12 +234,10 @@ def main():
         ("crates/p5_nodes/proofs/entry/Answers.antt", proof(numbers)),
     ):
         file = HOME / path
-        stands = file.read_text() if file.exists() else ""
-        text = as_asked(text, stands)
         if "--check" not in sys.argv:
             file.parent.mkdir(parents=True, exist_ok=True)
             file.write_text(text)
-        elif stands != text:
+        elif not file.exists() or file.read_text() != text:
             stale.append(path)
     if stale:
         sys.exit("not as tools/nodes.py would write: " + " ".join(stale))

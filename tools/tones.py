@@ -14,7 +14,6 @@ CRATE = HOME / "crates/p1_tone_block"
 MIRROR = (CRATE / "specs/Mirror.antt").read_text(encoding="utf-8")
 BLOCK = [ord(letter) for letter in re.search(r'^tone_block = word "([^"]*)"$', MIRROR, re.M)[1]]
 SLOT = re.search(r"^slot_of x = (x % (\d+) \* (\d+) / (\d+) % (\d+))$", MIRROR, re.M)
-ASKS = "#![tactic(auto)]"
 RANGE, FACTOR, PART, SLOTS = map(int, SLOT.groups()[1:])
 
 
@@ -36,6 +35,8 @@ def rows():
 def source():
     return f"""// The tones as one block of letters: twelve rows of a vowel and its five toned letters. A letter is found by its place, and a
 // place by its letter. The compiler makes constant tables of the arms. Written by tools/tones.py.
+#![tactic(auto)]
+
 ghost use Rattle.std.specs.Prelude.{{◌≡◌}};
 ghost use Rattle.p1_tone_block.specs.Mirror.{{tone_block, letter_at, place_in, letter_place}};
 
@@ -98,11 +99,6 @@ def factors():
                 break
 
 
-def as_asked(text, stands):
-    """The text of a root file, with the line that has the check try its tactics where the file has it."""
-    return text.replace("\nghost use", f"\n{ASKS}\n\nghost use", 1) if ASKS in stands else text
-
-
 def main():
     assert len(BLOCK) == 72 and len(set(map(slot, BLOCK))) == 72
     if "--slots" in sys.argv:
@@ -120,12 +116,10 @@ def main():
         ),
     ):
         file = CRATE / path
-        stands = file.read_text(encoding="utf-8") if file.exists() else ""
-        text = as_asked(text, stands)
         if "--check" not in sys.argv:
             file.parent.mkdir(parents=True, exist_ok=True)
             file.write_text(text, encoding="utf-8")
-        elif stands != text:
+        elif not file.exists() or file.read_text(encoding="utf-8") != text:
             stale.append(str(file.relative_to(HOME)))
     if stale:
         sys.exit("not as tools/tones.py would write: " + " ".join(stale))
