@@ -1,5 +1,4 @@
 use borrow.Author.Rules.{rules}
-use Prim.Native.Nat.{◌-◌}
 use Rattle.p6_draft.proofs.Tests.{draft_frame_lem, draft_few, draft_room_lem, cell_below, cell_room}
 use Rattle.p6_draft_calls.proofs.Filling.{filled_start, filled_on, composition_is}
 use Rattle.p6_draft_calls.proofs.by_value.composition.Goals as goal

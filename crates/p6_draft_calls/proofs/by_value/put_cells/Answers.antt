@@ -1,5 +1,4 @@
 use borrow.Author.Rules.{rules}
-use Prim.Native.Nat.{◌-◌}
 use Rattle.p3_cells.proofs.Text.{length_under}
 use Rattle.p6_draft.proofs.Writing.{cells_start, cells_on, used_done}
 use Rattle.p6_draft_calls.proofs.by_value.put_cells.Goals as goal

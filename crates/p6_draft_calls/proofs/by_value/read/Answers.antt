@@ -10,5 +10,4 @@ pub composition-d-requires : goal.composition-d-requires
 composition-d-requires c = search passed
 
 pub returns : goal.returns
-returns c = let t : tie.After-is-draft = c in
-    read_given _ _ _ t.is-draft.ensures _ (search rules) t.before.shared-slice-known.given c.composition-d.ensures
+returns c = read_given _ _ _ c.is_draft.ensures _ (search rules) c.shared_slice_known-1.given c.composition-d.ensures

@@ -1,5 +1,4 @@
 use borrow.Author.Rules.{rules}
-use Prim.Native.Nat.{◌-◌}
 use native.Mathlib.Omega.{arith}
 use lib.ListN.{length-set}
 use Rattle.p6_draft.proofs.Tests.{draft_frame_lem, draft_byte, draft_few, draft_room_lem, cell_below, cell_room}

@@ -1,5 +1,4 @@
 use borrow.Author.Rules.{rules}
-use Prim.Native.Nat.{◌-◌}
 use Rattle.p6_bytes.proofs.Stored.{cells_all}
 use Rattle.p6_draft.proofs.Writing.{cells_start, cells_on, cells_done}
 use Rattle.p6_draft_calls.proofs.on_bytes.put_cells_on.Goals as goal

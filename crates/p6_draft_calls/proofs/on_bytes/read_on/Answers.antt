@@ -15,6 +15,4 @@ pub fill_on-requires : goal.fill_on-requires
 fill_on-requires c = search answers
 
 pub returns : goal.returns
-returns c = let t : tie.After-is-draft = c in
-    let bytes = t.before.before.before.shared-slice-known.given in
-    read_done _ _ (search rules) _ t.is-draft.ensures _ (search rules) bytes (search rules)
+returns c = read_done _ _ (search rules) _ c.is_draft.ensures _ (search rules) c.shared_slice_known-1.given (search rules)
