@@ -37,4 +37,4 @@ pub shape_of-text : goal.shape_of-text
 shape_of-text c = search typed
 
 pub returns : goal.returns
-returns c = (search typed, search typed)
+returns c = record { value = search typed; text_after = search typed }

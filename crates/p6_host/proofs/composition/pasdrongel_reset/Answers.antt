@@ -1,0 +1,17 @@
+use borrow.Author.Rules.{rules}
+use Rattle.p6_host.proofs.Told.{told_number}
+use Rattle.p6_host.proofs.composition.pasdrongel_reset.Goals as goal
+
+ruleset answers = (rules, told_number)
+
+pub reset-given-requires : goal.reset-given-requires
+reset-given-requires c = search answers
+
+pub refusal_of-requires : goal.refusal_of-requires
+refusal_of-requires c = search answers
+
+pub shape_of-state : goal.shape_of-state
+shape_of-state c = search answers
+
+pub returns : goal.returns
+returns c = search answers

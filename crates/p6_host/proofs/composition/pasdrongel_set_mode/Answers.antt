@@ -1,0 +1,17 @@
+use borrow.Author.Rules.{rules}
+use Rattle.p6_host.proofs.Told.{told_number}
+use Rattle.p6_host.proofs.composition.pasdrongel_set_mode.Goals as goal
+
+ruleset answers = (rules, told_number)
+
+pub set_mode-given-requires : goal.set_mode-given-requires
+set_mode-given-requires c = search answers
+
+pub refusal_of-requires : goal.refusal_of-requires
+refusal_of-requires c = search answers
+
+pub shape_of-state : goal.shape_of-state
+shape_of-state c = search answers
+
+pub returns : goal.returns
+returns c = search answers

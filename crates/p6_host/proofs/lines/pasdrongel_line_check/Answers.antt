@@ -1,0 +1,14 @@
+use borrow.Author.Rules.{rules}
+use Rattle.p6_host.proofs.LineCalls.{told_checked, told_words, told_no, told_first}
+use Rattle.p6_host.proofs.lines.pasdrongel_line_check.Goals as goal
+
+ruleset answers = (rules, told_checked, told_words, told_no, told_first)
+
+pub check-given-requires : goal.check-given-requires
+check-given-requires c = search answers
+
+pub tell_checked-requires : goal.tell_checked-requires
+tell_checked-requires c = search answers
+
+pub returns : goal.returns
+returns c = record { value = search answers; words_after = search answers; no_after = search answers; first_after = search answers }
