@@ -1,4 +1,3 @@
-use Prim.Native.Nat.{◌-◌}
 use borrow.Author.Rules.{rules}
 use Rattle.p7_bench.proofs.Typing.{typing}
 use Rattle.p7_bench_inner.proofs.Sound.{fresh_sound, typed_sound}
