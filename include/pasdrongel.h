@@ -33,12 +33,11 @@ extern "C" {
  * nothing else. It has no data that is ever written: calls may run at the same time, in threads or in a handler of signals,
  * where what one of them writes is lent to no other. */
 
-/* No call but one takes more bytes of stack than this, counted from its return address on, memcpy and memset included. A loader
+/* No call takes more bytes of stack than this, counted from its return address on, memcpy and memset included. A loader
  * that binds these two at their first call takes its own then; a program that is linked with -z now has none.
  *
- * The one is pasdrongel_line_check: it goes one call deeper for each word and the gap after it, and a line of 4,096 letters has
- * at most 2,048 words. So pasdrongel_line_check takes at most 99,328 bytes of stack. A host with a small stack hands the
- * line over in parts (pasdrongel_line_part), which need none of that. */
+ * That holds of pasdrongel_line_check too, whatever the line: its two readers call each other for each word and gap, and the
+ * compiler has made jumps of these calls, which leave nothing on the stack. */
 #define PASDRONGEL_STACK_BYTES 768
 
 /* Memory. A call is lent buffers, each a pointer and a length, and places for one number, each a pointer. It reads and
@@ -309,8 +308,8 @@ uint32_t pasdrongel_verdict(const uint32_t *word, size_t length, uint32_t *yes);
  * letter is refused decides, and where both hold of that letter, 1 does. */
 
 /* Checks a whole line of `length` letters: the number of its words to `*words`, that of the words judged no to `*no`, and the
- * place to `*first`. Refuses by 1 or 6, by place as above. This is the call that takes more stack than others
- * (PASDRONGEL_STACK_BYTES). `line` may be NULL if `length` is 0. `line`, `words`, `no` and `first` lie apart. */
+ * place to `*first`. Refuses by 1 or 6, by place as above. `line` may be NULL if `length` is 0. `line`, `words`, `no` and
+ * `first` lie apart. */
 uint32_t pasdrongel_line_check(const uint32_t *line, size_t length, size_t *words, size_t *no, size_t *first);
 
 /* Note lines in parts. A line may be handed over as it comes in, cut anywhere, within a word too: what has come of it stands in

@@ -8,7 +8,7 @@
 #include <ucontext.h>
 
 #define PAINT 0xa5a5a5a5a5a5a5a5u
-/* The stack of a call that takes little of it, and that of the one which goes deeper for each word of a line. */
+/* The stack of a call that takes little of it, and that of the one which, in the source, goes deeper for each word of a line. */
 #define SHALLOW 2048
 #define PAINTED_WORDS 65536
 

@@ -1,5 +1,5 @@
-/* The stack that a note line takes. The whole line goes one call deeper for each word, so the lines with the most words decide: they
- * are checked on a painted stack (painted.h), and handed over in parts too, which need none of that.
+/* The stack that a note line takes. In the source the whole line goes one call deeper for each word, so the lines with the most words decide:
+ * they are checked on a painted stack (painted.h), and handed over in parts too.
  *
  *   stack      prints `stack CALL BYTES LINE` for each call and line, and fails if a line is answered otherwise than expected */
 #include "painted.h"
