@@ -1,5 +1,4 @@
 use borrow.Author.Rules.{rules}
-use Prim.Native.Nat.{◌-◌}
 use mathlib.Core.Path.{refl}
 use Rattle.p1_letters.proofs.Words.{foreign_here, foreign_on, foreign_none}
 use Rattle.p1_letters.proofs.first_foreign.Goals as goal

@@ -1,4 +1,3 @@
-use Prim.Native.Nat.{◌-◌}
 use native.Mathlib.Omega.{arith}
 use borrow.Author.Rules.{rules}
 use Rattle.p3_cells.proofs.SoundTest.{sound_long, sound_start, used_bad, used_on, past_start, past_on, past_end}

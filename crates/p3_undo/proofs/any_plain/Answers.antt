@@ -1,5 +1,4 @@
 use borrow.Author.Rules.{rules}
-use Prim.Native.Nat.{◌-◌}
 use mathlib.Core.Path.{refl}
 use Rattle.p3_undo.proofs.Raw.{plain_none, plain_found, plain_on}
 use Rattle.p3_undo.proofs.any_plain.Goals as goal

@@ -1,5 +1,4 @@
 use borrow.Author.Rules.{rules}
-use Prim.Native.Nat.{◌-◌}
 use mathlib.Core.Path.{refl}
 use Rattle.p3_undo.proofs.Undo.{rules_none, rules_found, rules_on}
 use Rattle.p3_undo.proofs.by_rules.Goals as goal

@@ -1,5 +1,4 @@
 use borrow.Author.Rules.{rules}
-use Prim.Native.Nat.{◌-◌}
 use mathlib.Core.Path.{refl}
 use Rattle.p3_cells.proofs.Holding.{count_fits}
 use Rattle.p3_cells.proofs.Soundness.{sound_length}

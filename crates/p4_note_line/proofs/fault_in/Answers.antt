@@ -1,5 +1,4 @@
 use borrow.Author.Rules.{rules}
-use Prim.Native.Nat.{◌-◌}
 use mathlib.Core.Path.{refl}
 use Rattle.p4_note_line.specs.Line.{line_fault}
 use Rattle.p4_note_line.proofs.Faults.{fault_gap, fault_letter, fault_foreign, fault_long, fault_none}

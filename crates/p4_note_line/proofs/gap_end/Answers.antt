@@ -1,6 +1,5 @@
 use borrow.Author.Rules.{rules}
 use borrow.Author.Tests.{not-true, not-false}
-use Prim.Native.Nat.{◌-◌}
 use mathlib.Core.Path.{refl}
 use Rattle.p4_note_line.proofs.Scans.{gap_on, gap_here, gap_done}
 use Rattle.p4_note_line.proofs.gap_end.Goals as goal

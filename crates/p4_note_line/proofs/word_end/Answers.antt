@@ -1,5 +1,4 @@
 use borrow.Author.Rules.{rules}
-use Prim.Native.Nat.{◌-◌}
 use mathlib.Core.Path.{refl}
 use Rattle.p4_note_line.proofs.Scans.{word_begun, word_on, word_here, word_done}
 use Rattle.p4_note_line.proofs.word_end.Goals as goal

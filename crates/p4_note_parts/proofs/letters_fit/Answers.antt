@@ -1,5 +1,4 @@
 use borrow.Author.Rules.{rules}
-use Prim.Native.Nat.{◌-◌}
 use Rattle.p4_note_parts.proofs.Tests.{kept_start_lem, kept_stray, kept_none, kept_foreign, kept_gap, kept_on, kept_all}
 use Rattle.p4_note_parts.proofs.letters_fit.Goals as goal
 

@@ -1,6 +1,5 @@
 use native.Mathlib.Omega.{arith}
 use borrow.Author.Rules.{rules}
-use Prim.Native.Nat.{◌-◌}
 use Rattle.p0_choice.proofs.Choices.{picks}
 use Rattle.p4_note_parts.proofs.Words.{spaced, lengthened, run_within, one_more}
 use Rattle.p4_note_parts.proofs.Steps.{on_start, on_end, on_gap, on_letter, on_foreign, on_long}

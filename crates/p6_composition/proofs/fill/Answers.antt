@@ -1,5 +1,4 @@
 use borrow.Author.Rules.{rules}
-use Prim.Native.Nat.{◌-◌}
 use Rattle.p6_composition.proofs.OneKey.{fill_start, fill_on, fill_done}
 use mathlib.Core.Path.{refl}
 use Rattle.p6_composition.proofs.fill.Goals as goal

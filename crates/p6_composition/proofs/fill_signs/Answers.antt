@@ -1,5 +1,4 @@
 use borrow.Author.Rules.{rules}
-use Prim.Native.Nat.{◌-◌}
 use mathlib.Core.Path.{refl}
 use Rattle.p3_undo.proofs.Signs.{signed_none, signed_more, signed_all}
 use Rattle.p6_bytes.proofs.Stored.{cells_all}

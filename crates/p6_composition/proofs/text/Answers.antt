@@ -1,5 +1,4 @@
 use borrow.Author.Rules.{rules}
-use Prim.Native.Nat.{◌-◌}
 use Rattle.p6_composition.proofs.InPlace.{text_start, text_on_lem, text_all}
 use mathlib.Core.Path.{refl}
 use Rattle.p6_composition.proofs.text.Goals as goal

@@ -1,7 +1,6 @@
 -- The composition stays sound, and what is left of the keys decides what the line prints.
 use borrow.Author.Rules.{rules}
 use mathlib.Core.Path.{refl}
-use Prim.Native.Nat.{◌-◌}
 use Rattle.p7_line.proofs.Typing.{typing_first, typing_on, line_refused, line_typed, typed_letters}
 use Rattle.p7_line.proofs.keys_line.Goals as goal
 

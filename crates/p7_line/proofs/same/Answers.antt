@@ -1,5 +1,4 @@
 use borrow.Author.Rules.{rules}
-use Prim.Native.Nat.{◌-◌}
 use mathlib.Core.Path.{refl}
 use Rattle.p7_line.proofs.SameWord.{same_long, same_not, same_on, same_done}
 use Rattle.p7_line.proofs.same.Goals as goal
