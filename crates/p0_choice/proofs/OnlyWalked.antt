@@ -1,6 +1,6 @@
--- That no second answer fits the contract of a function whose proof walks its code by hand. Rattle makes no Asked and Learnt
--- for such a function, so its clauses are read here: in every model they ask nothing and tell a plain fact, and no second
--- answer meets that fact.
+-- That no second answer fits the contract of a function, said of its clauses themselves: in every model they ask nothing and tell
+-- a plain fact, and no second answer meets that fact. It is said so of the functions that lend on what they are lent, beside the
+-- law over what Rattle reads out of the contract (Only.antt).
 use mathlib.Core.Path.{◌≡◌}
 use mathlib.Core.List.{List}
 use Prim.Native.Nat.{ℕ}
