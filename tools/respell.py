@@ -1,7 +1,7 @@
 #!/usr/bin/env python3
 """Spells the repository's own definitions, lemmas and fields as today's Rattle does: words in snake case.
 
-usage: tools/respell.py [--list]       at the top of the repository, once, on what /opt/rattle/port/port.py left
+usage: tools/respell.py [--list]       at the top of the repository, once, on what the kit's port.py left
 
 A name of specs/ or proofs/ in lower camel case (isSound) or with dashes (sound-long) gets underscores. Types, modules and what the kit
 makes or names keep their spelling. Where two names would fall together, a definition of specs/ has the plain spelling, and the lemma ends
