@@ -3,7 +3,7 @@ use mathlib.Core.Path.{refl}
 use Rattle.p0_choice.proofs.Only.{OneAnswer, alike}
 use Rattle.p0_refusals.proofs as own
 
-pub number_only : OneAnswer own.number.Kinds.ps own.number.Kinds.r own.number.Reads.Asked own.number.Reads.Learnt
+pub number_only : OneAnswer own.U32FromRefusal.from.Kinds.ps own.U32FromRefusal.from.Kinds.r own.U32FromRefusal.from.Reads.Asked own.U32FromRefusal.from.Reads.Learnt
 number_only κs a = (tt, λ z z' w w' q q'. (alike q q', refl))
 
 pub refusal_of_only : OneAnswer own.refusal_of.Kinds.ps own.refusal_of.Kinds.r own.refusal_of.Reads.Asked own.refusal_of.Reads.Learnt

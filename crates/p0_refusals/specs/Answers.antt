@@ -1,17 +1,15 @@
 -- Document 01, "A refusal returns its number; .. An answer is written from the start of the output": what a call answers
 -- and leaves in the lent output, given what there is to write.
-use Rattle.std.specs.Prelude.{ℕ, List, [], ◌++◌, ltb, length, drop}
+use Rattle.std.specs.Prelude.{ℕ, List, [], ◌++◌, ltb, length, drop, Err, Ok, Result}
 use Rattle.p0_choice.specs.Choice.{pick}
 use Rattle.p0_refusals.specs.declared.Refusal.{Refusal}
 use Rattle.p0_refusals.specs.declared.Refusal.TheVariants.{Short}
 use Rattle.p0_refusals.specs.Refusals.{number_of}
-use Rattle.p0_refusals.specs.declared.Answer.{Answer}
-use Rattle.p0_refusals.specs.declared.Answer.TheVariants.{Done, Refused}
 
 -- "A refusal returns its number"; 0 where the call is done.
-abbrev pub refusal_of : Answer → ℕ
-refusal_of (Done n) = 0
-refusal_of (Refused r) = number_of r
+abbrev pub refusal_of : Result ℕ Refusal → ℕ
+refusal_of (Ok n) = 0
+refusal_of (Err r) = number_of r
 
 -- What a call has to write, if nothing but the output's length is against it.
 pub data Outcome : Type 0 where
@@ -24,14 +22,14 @@ content (writes xs) = xs
 content (refuses r) = []
 
 -- The answer with so much room lent. "3: the lent output is shorter than the answer", and 3 comes last.
-unfoldable pub answer : Outcome → ℕ → Answer
-answer (writes xs) room = pick (ltb room (length xs)) (Refused Short) (Done (length xs))
-answer (refuses r) room = Refused r
+unfoldable pub answer : Outcome → ℕ → Result ℕ Refusal
+answer (writes xs) room = pick (ltb room (length xs)) (Err Short) (Ok (length xs))
+answer (refuses r) room = Err r
 
 -- "A refusal returns its number; the composition and lent outputs stay as they were": the old, or the new if the call is done.
-abbrev pub unless : {A : Type 0} → Answer → A → A → A
-unless (Done n) old new = new
-unless (Refused r) old new = old
+abbrev pub unless : {A : Type 0} → Result ℕ Refusal → A → A → A
+unless (Ok n) old new = new
+unless (Err r) old new = old
 
 -- "An answer is written from the start of the output; the rest of it keeps its values."
 abbrev pub onto : List ℕ → List ℕ → List ℕ

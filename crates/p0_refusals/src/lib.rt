@@ -12,7 +12,7 @@ pub const LETTERS: usize = 64;
 pub const BYTES: usize = 256;
 
 // Why a call refuses: a row of document 01's table each, in its order, and then those that requests of document 02 add to it.
-#[derive(Clone, Copy)]
+#[derive(Clone, Copy, Debug, PartialEq, Eq)]
 pub enum Refusal {
     // a code point outside the alphabet
     Foreign,
@@ -39,37 +39,32 @@ pub enum Refusal {
 }
 
 // The refusal's number, as a host sees it.
-pub fn number(refusal: Refusal) -> u32
-    ensures { result ≡ number_of refusal }
-{
-    match refusal {
-        Refusal::Foreign => 1,
-        Refusal::Full => 2,
-        Refusal::Short => 3,
-        Refusal::Empty => 4,
-        Refusal::NoUndo => 5,
-        Refusal::Long => 6,
-        Refusal::NoWord => 7,
-        Refusal::Malformed => 8,
-        Refusal::NoMethod => 9,
-        Refusal::Unsound => 10,
-        Refusal::NoDraft => 11,
+impl From<Refusal> for u32 {
+    ghost from_gives = { λ refusal n. n ≡ number_of refusal };
+
+    fn from(refusal: Refusal) -> u32 {
+        match refusal {
+            Refusal::Foreign => 1,
+            Refusal::Full => 2,
+            Refusal::Short => 3,
+            Refusal::Empty => 4,
+            Refusal::NoUndo => 5,
+            Refusal::Long => 6,
+            Refusal::NoWord => 7,
+            Refusal::Malformed => 8,
+            Refusal::NoMethod => 9,
+            Refusal::Unsound => 10,
+            Refusal::NoDraft => 11,
+        }
     }
 }
 
-// What a call that fills a lent output answers: how many letters or bytes it wrote, or why it wrote none.
-#[derive(Clone, Copy)]
-pub enum Answer {
-    Done(usize),
-    Refused(Refusal),
-}
-
-// The number of an answer, as a host sees it: the refusal's, or 0.
-pub fn refusal_of(answer: Answer) -> u32
+// The number of an answer, as a host sees it: the refusal's, or 0 where so many letters or bytes were written.
+pub fn refusal_of(answer: Result<usize, Refusal>) -> u32
     ensures { result ≡ refusal_of answer }
 {
     match answer {
-        Answer::Done(_) => 0,
-        Answer::Refused(why) => number(why),
+        Ok(_) => 0,
+        Err(why) => u32::from(why),
     }
 }

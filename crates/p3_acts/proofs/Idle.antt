@@ -1,4 +1,5 @@
 -- The step of a key that does not act: it is appended, whatever the cells are.
+use Rattle.std.specs.Prelude.{None}
 use Prim.Native.Nat.{ℕ, zero, suc}
 use Prim.Native.Char.{code}
 use mathlib.Core.Path.{◌≡◌, refl, sym, ap, ◌∙◌}
@@ -18,7 +19,6 @@ use Rattle.p2_input_method.specs.declared.InputMethod.TheVariants.{Telex, Vni}
 use Rattle.p2_input_method.specs.declared.MarkRule.{MarkRule}
 use Rattle.p3_cells.specs.declared.Cell.{Cell}
 use Rattle.p3_cells.specs.declared.Settings.{Settings}
-use Rattle.p3_cells.specs.declared.Place.TheVariants.{Nowhere}
 use Rattle.p3_marks.specs.Mark.{mark_back, mark_place}
 use Rattle.p3_marks.specs.Uo.{base_at}
 use Rattle.p3_step.specs.Mirror.{appends_at, tone_for, uo_for, ua_for, mark_step, ua_step, uo_step, step_of}
@@ -61,7 +61,7 @@ module _ (m : InputMethod) (k : ℕ) (i : acts m k ≡ false) where
   no_horn : is_horn_key m k ≡ false
   no_horn = not_yes (is_horn_key m k) (acts m k) (horn_acts m k) i
 
-  none_back : (cs : List Cell) (n j : ℕ) → mark_back m cs k n j ≡ Nowhere
+  none_back : (cs : List Cell) (n j : ℕ) → mark_back m cs k n j ≡ None
   unfolding mark_back
   none_back cs zero j = refl
   none_back cs (suc n) zero = refl

@@ -1,4 +1,5 @@
 -- A removal takes back what was appended: after a literal it gives the composition back.
+use Rattle.std.specs.Prelude.{Ok}
 use Prim.Native.Nat.{ℕ, ◌-◌}
 use mathlib.Core.Path.{◌≡◌, refl, sym, ap, ◌∙◌}
 use mathlib.Core.Bool.{true}
@@ -7,7 +8,6 @@ use native.Mathlib.Omega.{arith}
 use lib.ListN.{length, take, length-append}
 use lib.Seq.{take-append_seam}
 use Rattle.p0_refusals.specs.Answers.{answer}
-use Rattle.p0_refusals.specs.declared.Answer.TheVariants.{Done}
 use Rattle.p3_cells.specs.Cells.{typed, is_sound, used, composed, holding}
 use Rattle.p3_cells.specs.declared.Cell.{Cell}
 use Rattle.p3_cells.specs.declared.Composition.{Composition}
@@ -31,13 +31,13 @@ module _ (c : Composition) (s : is_sound c ≡ true) where
   append_back x = rw (left_appended x) (ap (λ (z : Settings). composed z (used c)) (settings_held _ _) ∙ sym (holding_used c s))
 
   -- the removal, whichever call made d of it
-  pub removal_back : (x : Cell) (d : Composition) → d ≡ holding c (used c ++ (x ∷ [])) → (m j : ℕ) → (removed d m).answer ≡ Done j
+  pub removal_back : (x : Cell) (d : Composition) → d ≡ holding c (used c ++ (x ∷ [])) → (m j : ℕ) → (removed d m).answer ≡ Ok j
       → (removed d m).comp ≡ c
   unfolding removed
   removal_back x d e m j f =
       done_leaves (answer (removal_outcome d) m) d (holding d (left d)) j f ∙ ap (λ (d : Composition). holding d (left d)) e ∙ append_back x
 
-  pub literal_back : (ch k m j : ℕ) → (literal c ch).answer ≡ Done k → (removed (literal c ch).comp m).answer ≡ Done j
+  pub literal_back : (ch k m j : ℕ) → (literal c ch).answer ≡ Ok k → (removed (literal c ch).comp m).answer ≡ Ok j
       → (removed (literal c ch).comp m).comp ≡ c
   unfolding literal
   literal_back ch k m j e f =

@@ -1,4 +1,5 @@
 -- Every call keeps a composition sound, and a new one is.
+use Rattle.std.specs.Prelude.{Ok}
 use Prim.Native.Nat.{ℕ, ◌<◌, ◌≤◌, ◌-◌}
 use mathlib.Core.Path.{◌≡◌, refl}
 use mathlib.Core.Bool.{Bool, true, false}
@@ -9,7 +10,6 @@ use lib.ListN.{length, take, length-append, length-take}
 use borrow.Author.Tests.{ltb-true}
 use Rattle.p0_choice.specs.Choice.{pick}
 use Rattle.p0_refusals.specs.Answers.{writes, refuses, answer}
-use Rattle.p0_refusals.specs.declared.Answer.TheVariants.{Done}
 use Rattle.p0_refusals.specs.declared.Refusal.TheVariants.{Foreign, Full, Unsound}
 use Rattle.p1_letters.specs.Alphabet.{in_alphabet}
 use Rattle.p2_input_method.specs.declared.InputMethod.{InputMethod}
@@ -62,12 +62,12 @@ module _ (c : Composition) (s : is_sound c ≡ true) where
   set_capitals_sound on = leaving_keeps Sound (answer (settled c) 0) c _ s (λ k e. under_sound _)
 
   -- ---- the literal
-  fits : (ch k : ℕ) → answer (literal_outcome c ch) 0 ≡ Done k → (in_alphabet ch ≡ true) × (length (used c) < limit)
+  fits : (ch k : ℕ) → answer (literal_outcome c ch) 0 ≡ Ok k → (in_alphabet ch ≡ true) × (length (used c) < limit)
   unfolding literal_outcome answer
   fits ch k e = go (is_sound c) (in_alphabet ch) (ltb (length (used c)) limit) refl refl e
     where
       go : (a b d : Bool) → in_alphabet ch ≡ b → ltb (length (used c)) limit ≡ d
-          → answer (pick a (pick b (pick d (writes []) (refuses Full)) (refuses Foreign)) (refuses Unsound)) 0 ≡ Done k
+          → answer (pick a (pick b (pick d (writes []) (refuses Full)) (refuses Foreign)) (refuses Unsound)) 0 ≡ Ok k
           → (in_alphabet ch ≡ true) × (length (used c) < limit)
       go true true true p q h = (p, ltb-true (length (used c)) limit q)
       go true true false p q h = let z : ◌≡◌ {A = ℕ} 0 1 = cc in absurd (omega arith)

@@ -1,4 +1,5 @@
 -- Each way through the text and the removal: what is to be written, and with that the answer and the output.
+use Rattle.std.specs.Prelude.{Err, Ok}
 use Prim.Native.Nat.{ℕ, ◌-◌, ◌<◌, ◌≤◌}
 use mathlib.Core.Path.{◌≡◌, refl, sym, ◌∙◌}
 use mathlib.Core.Bool.{Bool, true, false, not}
@@ -8,7 +9,6 @@ use lib.ListN.{length, take, drop}
 use lib.Seq.{length-take-le}
 use borrow.Author.Tests.{eq-eqb, ne_eqb, not-true, not-false}
 use Rattle.p0_refusals.specs.Answers.{writes, refuses, answer, output}
-use Rattle.p0_refusals.specs.declared.Answer.TheVariants.{Done, Refused}
 use Rattle.p0_refusals.specs.declared.Refusal.TheVariants.{Short, Empty, Unsound}
 use Rattle.p0_refusals.proofs.Answers.{refuses_answer, refuses_output, short_answer, short_output, writes_answer, writes_output}
 use Rattle.p3_cells.specs.Cells.{limit, blank, is_sound, used, holding}
@@ -33,7 +33,7 @@ module _ (c : Composition) (s : Bool) (e : s ≡ is_sound c) where
     unfolding text_outcome
     text_no = rw (← e, not-true s h) refl
 
-    pub text_unsound : (n : ℕ) → Refused Unsound ≡ answer (text_outcome c) n
+    pub text_unsound : (n : ℕ) → Err Unsound ≡ answer (text_outcome c) n
     text_unsound n = refuses_answer _ _ text_no n
 
     pub text_unsound_out : (o : List ℕ) → o ≡ output (text_outcome c) o
@@ -75,13 +75,13 @@ module _ (c : Composition) (s : Bool) (e : s ≡ is_sound c) where
     room : length (text_in c (used c)) ≡ c.count
     room = text_length _ (used c) ∙ count
 
-    pub text_short : (m : ℕ) → m < c.count → Refused Short ≡ answer (text_outcome c) m
+    pub text_short : (m : ℕ) → m < c.count → Err Short ≡ answer (text_outcome c) m
     text_short m l = short_answer _ _ text_writes m (rw room l)
 
     pub text_short_out : (o : List ℕ) → length o < c.count → o ≡ output (text_outcome c) o
     text_short_out o l = short_output _ _ text_writes o (rw room l)
 
-    pub text_done : (m r : ℕ) → c.count ≤ m → r ≡ c.count → Done r ≡ answer (text_outcome c) m
+    pub text_done : (m r : ℕ) → c.count ≤ m → r ≡ c.count → Ok r ≡ answer (text_outcome c) m
     text_done m r l q = writes_answer _ _ text_writes m r (rw room l) (rw room q)
 
     pub text_done_out : (o out : List ℕ) → c.count ≤ length o → out ≡ text_in c (used c) ++ drop c.count o
@@ -128,7 +128,7 @@ module _ (c : Composition) (s : Bool) (e : s ≡ is_sound c) where
       shorter_is x b = rw (b, left_is) (holding_less c whole (omega arith))
 
       pub removal_done : (m r : ℕ) (x : Cell) → x ≡ blank → c.count - 1 ≤ m → r ≡ c.count - 1
-          → record { comp = shorter x; answer = Done r } ≡ removed c m
+          → record { comp = shorter x; answer = Ok r } ≡ removed c m
       unfolding removed
       removal_done m r x b l q = leaving_done _ c _ m _ (shorter x) r removal_writes (rw less l) (rw less q) (shorter_is x b)
 

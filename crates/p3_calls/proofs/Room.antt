@@ -1,4 +1,5 @@
 -- With room for the letters of all cells the calls that write the text never refuse by 3.
+use Rattle.std.specs.Prelude.{Err}
 use Prim.Native.Nat.{ℕ, ◌-◌, ◌≤◌}
 use mathlib.Core.Path.{◌≡◌, refl}
 use mathlib.Core.Bool.{Bool, true, false}
@@ -8,7 +9,6 @@ use lib.Dec.{eqb}
 use lib.ListN.{length, take, length-take}
 use Rattle.p0_choice.specs.Choice.{pick}
 use Rattle.p0_refusals.specs.Answers.{writes, refuses, answer}
-use Rattle.p0_refusals.specs.declared.Answer.TheVariants.{Refused}
 use Rattle.p0_refusals.specs.declared.Refusal.TheVariants.{Short, Empty, Unsound}
 use Rattle.p0_refusals.proofs.Room.{Fits, enough}
 use Rattle.p3_cells.specs.Cells.{limit, is_sound, used}
@@ -47,8 +47,8 @@ module _ (c : Composition) where
           text_short _ (take (length (used c) - 1) (used c)) limit (omega (arith, used_short s, length-take (length (used c) - 1) (used c)))
       go false s b = λ e. let z : ◌≡◌ {A = ℕ} 0 1 = cc in omega arith
 
-  pub text_room_lem : (n : ℕ) → limit ≤ n → answer (text_outcome c) n ≡ Refused Short → ⊥
+  pub text_room_lem : (n : ℕ) → limit ≤ n → answer (text_outcome c) n ≡ Err Short → ⊥
   text_room_lem n h = enough (text_outcome c) limit n text_fits h
 
-  pub removal_room : (n : ℕ) → limit ≤ n → answer (removal_outcome c) n ≡ Refused Short → ⊥
+  pub removal_room : (n : ℕ) → limit ≤ n → answer (removal_outcome c) n ≡ Err Short → ⊥
   removal_room n h = enough (removal_outcome c) limit n removal_fits h

@@ -10,7 +10,7 @@ ghost use Rattle.p3_calls.specs.Settings.{created, reset_to, method_set, enabled
 ghost use Rattle.p3_calls.specs.Literal.{literal};
 ghost use Rattle.p3_calls.specs.Output.{text_outcome, removal_outcome, removed};
 
-use p0_refusals::{Answer, Refusal};
+use p0_refusals::{Refusal};
 use p1_letters as letters;
 use p2_input_method::InputMethod;
 use p3_cells as cells;
@@ -21,7 +21,7 @@ fn refuse(c: Composition, why: Refusal) -> After
 {
     After {
         comp: c,
-        answer: Answer::Refused(why),
+        answer: Err(why),
     }
 }
 
@@ -56,7 +56,7 @@ pub fn reset(c: Composition) -> After
     let d = empty(c.settings);
     After {
         comp: d,
-        answer: Answer::Done(0),
+        answer: Ok(0),
     }
 }
 
@@ -76,7 +76,7 @@ pub fn set_method(c: Composition, method: InputMethod) -> After
     });
     After {
         comp: d,
-        answer: Answer::Done(0),
+        answer: Ok(0),
     }
 }
 
@@ -98,7 +98,7 @@ pub fn set_enabled(mut c: Composition, enabled: bool) -> After
         });
         return After {
             comp: d,
-            answer: Answer::Done(0),
+            answer: Ok(0),
         };
     }
     let vietnamese = Settings {
@@ -109,7 +109,7 @@ pub fn set_enabled(mut c: Composition, enabled: bool) -> After
     c.settings = vietnamese;
     After {
         comp: c,
-        answer: Answer::Done(0),
+        answer: Ok(0),
     }
 }
 
@@ -131,7 +131,7 @@ pub fn set_capitals(mut c: Composition, on: bool) -> After
     c.settings = changed;
     After {
         comp: c,
-        answer: Answer::Done(0),
+        answer: Ok(0),
     }
 }
 
@@ -153,22 +153,22 @@ pub fn append_literal(mut c: Composition, ch: u32) -> After
     c.count = n + 1;
     After {
         comp: c,
-        answer: Answer::Done(0),
+        answer: Ok(0),
     }
 }
 
-pub fn get_output(c: Composition, out: &mut [u32]) -> Answer
+pub fn get_output(c: Composition, out: &mut [u32]) -> Result<usize, Refusal>
     ensures { (result ≡ answer (text_outcome c) (length out.old))
         × (out.new ≡ output (text_outcome c) out.old) }
 {
     if !cells::sound(c) {
-        return Answer::Refused(Refusal::Unsound);
+        return Err(Refusal::Unsound);
     }
     if out.len() < c.count {
-        return Answer::Refused(Refusal::Short);
+        return Err(Refusal::Short);
     }
     let n = cells::flatten(c, out);
-    Answer::Done(n)
+    Ok(n)
 }
 
 pub fn pop_last(mut c: Composition, out: &mut [u32]) -> After
@@ -191,6 +191,6 @@ pub fn pop_last(mut c: Composition, out: &mut [u32]) -> After
     let w = cells::flatten(c, out);
     After {
         comp: c,
-        answer: Answer::Done(w),
+        answer: Ok(w),
     }
 }

@@ -1,5 +1,7 @@
 -- The two settings leave compositions that differ in the flags of ơ alone, key by key, also where the setting changes between keys:
 -- bases, marks and tones are one, and so is what a key answers.
+use Rattle.std.specs.Prelude.{Err, None, Ok, Option, Result, Some}
+use Rattle.p0_refusals.specs.declared.Refusal.{Refusal}
 use Prim.Native.Nat.{ℕ, zero, suc, ◌<◌}
 use Prim.Native.Char.{code}
 use mathlib.Core.Path.{◌≡◌, refl, sym, ap, ◌∙◌}
@@ -11,8 +13,6 @@ use lib.ListN.{length, get_or, set}
 use Rattle.p0_choice.specs.Choice.{pick, each}
 use Rattle.p0_choice.specs.Text.{word}
 use Rattle.p0_refusals.specs.Answers.{writes, refuses, answer}
-use Rattle.p0_refusals.specs.declared.Answer.{Answer}
-use Rattle.p0_refusals.specs.declared.Answer.TheVariants.{Done, Refused}
 use Rattle.p0_refusals.specs.declared.Refusal.TheVariants.{Foreign, Full}
 use Rattle.p1_letters.specs.Alphabet.{in_alphabet, is_ascii_capital, ascii_lower}
 use Rattle.p2_input_method.specs.Rules.{is_tone_key, is_horn_key, mark_rule, mark_rules, mark_in, mark_for}
@@ -27,8 +27,6 @@ use Rattle.p3_cells.specs.declared.Cell.{Cell}
 use Rattle.p3_cells.specs.declared.Composition.{Composition}
 use Rattle.p3_cells.specs.declared.Mode.{Mode}
 use Rattle.p3_cells.specs.declared.Mode.TheVariants.{Vietnamese, English}
-use Rattle.p3_cells.specs.declared.Place.{Place}
-use Rattle.p3_cells.specs.declared.Place.TheVariants.{Nowhere, At}
 use Rattle.p3_cells.specs.declared.Settings.{Settings}
 use Rattle.p3_cells.proofs.Holding.{used_held, used_cells}
 use Rattle.p3_cells.proofs.Text.{text_length}
@@ -103,13 +101,13 @@ module _ {x y : Cell} (e : ApartCell x y) where
   horn_o_apart a b = record { base = refl; mark = refl; tone = refl; flag = λ q. absurd (q refl) }
 
 -- ---- a step of two lists of cells, in use under settings of one method
-place_two : (p q : Place) (f g : ℕ → List Cell) (a b : List Cell) → p ≡ q → ((i : ℕ) → p ≡ At i → ApartCells (f i) (g i))
+place_two : (p q : Option ℕ) (f g : ℕ → List Cell) (a b : List Cell) → p ≡ q → ((i : ℕ) → p ≡ Some i → ApartCells (f i) (g i))
     → ApartCells a b → ApartCells (place_or p f a) (place_or q g b)
 place_two p q f g a b e h r = rw (← e) (go p h)
   where
-    go : (p : Place) → ((i : ℕ) → p ≡ At i → ApartCells (f i) (g i)) → ApartCells (place_or p f a) (place_or p g b)
-    go Nowhere h = r
-    go (At i) h = h i refl
+    go : (p : Option ℕ) → ((i : ℕ) → p ≡ Some i → ApartCells (f i) (g i)) → ApartCells (place_or p f a) (place_or p g b)
+    go None h = r
+    go (Some i) h = h i refl
 
 pick_two : (t u : Bool) (a b c d : List Cell) → t ≡ u → ApartCells a c → ApartCells b d → ApartCells (pick t a b) (pick u c d)
 pick_two t u a b c d e h k = rw (← e) (go t)
@@ -131,7 +129,7 @@ module _ (z w : Settings) (xs ys : List Cell) (r : ApartCells xs ys) (m : z.meth
   unfolding appended
   appended_apart = apart_append r (typed key)
 
-  ruled : (k i : ℕ) → mark_place z.method xs k ≡ At i → (get_or xs i blank).base ≡ code "ơ" → ⊥
+  ruled : (k i : ℕ) → mark_place z.method xs k ≡ Some i → (get_or xs i blank).base ≡ code "ơ" → ⊥
   unfolding base_at
   ruled k i e q = (place_marks z.method xs k i e).rule (rw q (no_rule_lem z.method k))
 
@@ -144,14 +142,14 @@ module _ (z w : Settings) (xs ys : List Cell) (r : ApartCells xs ys) (m : z.meth
       (λ i e. rw (← m, ← base_one i) (apart_set r i (marked_apart (apart_at r i) (mark_for z.method (base_at xs i) k) (ruled k i e))))
       appended_apart
 
-  uo_apart : (i : ℕ) → uo_place xs ≡ At i → ApartCells (uo_made z.capitals xs i) (uo_made w.capitals ys i)
+  uo_apart : (i : ℕ) → uo_place xs ≡ Some i → ApartCells (uo_made z.capitals xs i) (uo_made w.capitals ys i)
   unfolding uo_made base_at
   uo_apart i e =
       let u = ((uo_nearest xs i).0 e).u in
       apart_set (apart_set r (suc i) (horn_o_apart (apart_at r (suc i)) z.capitals w.capitals)) i
       (horn_u_apart (apart_at r (suc i)) (apart_at r i) (no_horn (get_or xs i blank) (code "u") u (omega arith)))
 
-  ua_apart : (i : ℕ) → ua_place xs ≡ At i → ApartCells (ua_made xs i) (ua_made ys i)
+  ua_apart : (i : ℕ) → ua_place xs ≡ Some i → ApartCells (ua_made xs i) (ua_made ys i)
   unfolding ua_made base_at
   ua_apart i e =
       apart_set r i
@@ -236,6 +234,6 @@ module _ (c d : Composition) (s : is_sound c ≡ true) (t : is_sound d ≡ true)
   unfolding keyed leaving
   keys_apart n = (answer_one n, rw (answer_one n) (go (answer (key_outcome d key) n)))
     where
-      go : (a : Answer) → Apart (leaving a c (key_next c key)).comp (leaving a d (key_next d key)).comp
-      go (Done k) = next_one
-      go (Refused q) = r
+      go : (a : Result ℕ Refusal) → Apart (leaving a c (key_next c key)).comp (leaving a d (key_next d key)).comp
+      go (Ok k) = next_one
+      go (Err q) = r

@@ -1,6 +1,8 @@
 -- The setting itself: off at first; its own call leaves the cells, and setting it twice is setting it once; every other call keeps
 -- it. And the calls that request 2026-01 does not widen do not look at it: under the one setting they answer what they answer
 -- under the other, and leave what they leave there.
+use Rattle.std.specs.Prelude.{Err, Ok, Result}
+use Rattle.p0_refusals.specs.declared.Refusal.{Refusal}
 use Prim.Native.Nat.{ℕ}
 use mathlib.Core.Path.{◌≡◌, refl, sym, ap, ◌∙◌}
 use mathlib.Core.Bool.{Bool, true, false}
@@ -10,8 +12,6 @@ use lib.ListN.{length}
 use Rattle.p0_choice.specs.Choice.{pick}
 use Rattle.p0_refusals.specs.Answers.{writes, refuses, answer}
 use Rattle.p0_refusals.specs.Limits.{letter_limit}
-use Rattle.p0_refusals.specs.declared.Answer.{Answer}
-use Rattle.p0_refusals.specs.declared.Answer.TheVariants.{Done, Refused}
 use Rattle.p0_refusals.specs.declared.Refusal.TheVariants.{Foreign, Long, Empty, Unsound}
 use Rattle.p1_letters.specs.Alphabet.{in_alphabet, all_letters, ascii_lower}
 use Rattle.p2_input_method.specs.declared.InputMethod.{InputMethod}
@@ -45,10 +45,10 @@ unfolding created composed
 first_off m = refl
 
 -- ---- the calls that do not look at it
-leaving_under : (on : Bool) (a : Answer) (c d : Composition) → leaving a (under on c) (under on d) ≡ left_under on (leaving a c d)
+leaving_under : (on : Bool) (a : Result ℕ Refusal) (c d : Composition) → leaving a (under on c) (under on d) ≡ left_under on (leaving a c d)
 unfolding leaving
-leaving_under on (Done n) c d = refl
-leaving_under on (Refused r) c d = refl
+leaving_under on (Ok n) c d = refl
+leaving_under on (Err r) c d = refl
 
 module _ (on : Bool) (c : Composition) where
   pub literal_blind : (ch : ℕ) → literal (under on c) ch ≡ left_under on (literal c ch)
@@ -141,7 +141,7 @@ module _ (c : Composition) (on : Bool) where
       leaving_keeps (λ (d : Composition). used d ≡ used c) (answer (settled c) 0) c _ refl (λ k e. used_held _ (used c))
 
   -- of a sound composition it changes the setting, and nothing else
-  pub set_is_under : is_sound c ≡ true → capitals_set c on ≡ record { comp = under on c; answer = Done 0 }
+  pub set_is_under : is_sound c ≡ true → capitals_set c on ≡ record { comp = under on c; answer = Ok 0 }
   unfolding capitals_set settled answer leaving
   set_is_under s = rw (s, ← holding_under c s (with_capitals c.settings on)) refl
 

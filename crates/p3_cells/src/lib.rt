@@ -9,7 +9,7 @@ ghost use Rattle.p3_cells.specs.Cells.{used};
 ghost use Rattle.p3_cells.specs.Mirror.{packed_cell};
 ghost use Rattle.p3_cells.specs.Text.{letter_of, toned_letter, flagged as flagged_of, shown as shown_of, text_of};
 
-use p0_refusals::Answer;
+use p0_refusals::Refusal;
 use p1_letters as letters;
 use p2_input_method as input_method;
 use p2_input_method::InputMethod;
@@ -46,18 +46,11 @@ pub struct Composition {
     pub count: usize,
 }
 
-// Where a cell is found.
-#[derive(Clone, Copy)]
-pub enum Place {
-    Nowhere,
-    At(usize),
-}
-
 // What a call leaves: the composition, and its answer.
 #[derive(Clone, Copy)]
 pub struct After {
     pub comp: Composition,
-    pub answer: Answer,
+    pub answer: Result<usize, Refusal>,
 }
 
 // ---- cells

@@ -1,4 +1,5 @@
 -- A key keeps a composition sound: after any keys it can be handed in again.
+use Rattle.std.specs.Prelude.{Ok}
 use Prim.Native.Nat.{ℕ, ◌≤◌}
 use mathlib.Core.Path.{◌≡◌, refl, sym, ◌∙◌}
 use mathlib.Core.Bool.{Bool, true, false}
@@ -8,7 +9,6 @@ use lib.ListN.{length}
 use borrow.Author.Tests.{ltb-false}
 use Rattle.p0_choice.specs.Choice.{pick, each}
 use Rattle.p0_refusals.specs.Answers.{writes, refuses, answer}
-use Rattle.p0_refusals.specs.declared.Answer.TheVariants.{Done}
 use Rattle.p0_refusals.specs.declared.Refusal.TheVariants.{Foreign, Full, Unsound}
 use Rattle.p1_letters.specs.Alphabet.{in_alphabet}
 use Rattle.p3_cells.specs.Cells.{limit, is_cell, is_sound, used, holding}
@@ -25,12 +25,12 @@ pub record Taken (c : Composition) (key : ℕ) : Type 0 where
   pub letter : in_alphabet key ≡ true
   pub room : is_full c key ≡ false
 
-taken : (c : Composition) (key n k : ℕ) → answer (key_outcome c key) n ≡ Done k → Taken c key
+taken : (c : Composition) (key n k : ℕ) → answer (key_outcome c key) n ≡ Ok k → Taken c key
 unfolding key_outcome answer
 taken c key n k e = go (is_sound c) (in_alphabet key) (is_full c key) refl refl e
   where
     go : (s a f : Bool) → in_alphabet key ≡ a → is_full c key ≡ f
-        → answer (pick s (pick a (pick f (refuses Full) (writes (written_for c key))) (refuses Foreign)) (refuses Unsound)) n ≡ Done k
+        → answer (pick s (pick a (pick f (refuses Full) (writes (written_for c key))) (refuses Foreign)) (refuses Unsound)) n ≡ Ok k
         → Taken c key
     go false a f p q e = let z : ◌≡◌ {A = ℕ} 0 1 = cc in absurd (omega arith)
     go true false f p q e = let z : ◌≡◌ {A = ℕ} 0 1 = cc in absurd (omega arith)

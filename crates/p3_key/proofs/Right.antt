@@ -1,5 +1,6 @@
 -- What the owner does is document 01's key call: the answer, the composition and the output that a stroke leaves are those
 -- of the definitions.
+use Rattle.std.specs.Prelude.{Err, Ok}
 use Prim.Native.Nat.{ℕ, ◌<◌, ◌≤◌}
 use mathlib.Core.Path.{◌≡◌, refl, sym, ap, ◌∙◌}
 use mathlib.Core.Bool.{Bool, true, false}
@@ -22,7 +23,6 @@ use Rattle.p3_cells.specs.declared.Composition.{Composition}
 use Rattle.p3_cells.specs.declared.Mode.{Mode}
 use Rattle.p3_cells.specs.declared.Settings.{Settings}
 use Rattle.p3_cells.specs.declared.Mode.TheVariants.{Vietnamese, English}
-use Rattle.p0_refusals.specs.declared.Answer.TheVariants.{Done, Refused}
 use Rattle.p3_cells.proofs.Holding.{used_cells, used_held, holding_used}
 use Rattle.p3_cells.proofs.Soundness.{sound_length}
 use Rattle.p3_cells.proofs.Text.{text_length}
@@ -68,7 +68,7 @@ module _ (c : Composition) (key : ℕ) where
       outcome_writes f = rw (s, a, f) refl
 
 -- ---- nothing changes
-kept_right : (c : Composition) (key : ℕ) (o : List ℕ) (r : Refusal) → Refused r ≡ answer (key_outcome c key) (length o)
+kept_right : (c : Composition) (key : ℕ) (o : List ℕ) (r : Refusal) → Err r ≡ answer (key_outcome c key) (length o)
     → Right c key o (no_stroke r c.count)
 unfolding letters_to keyed leaving output
 kept_right c key o r e =
@@ -89,7 +89,7 @@ short_right c key o q l = kept_right c key o Short (short_answer _ _ q (length o
 -- ---- the composition and the output, where the letters are written
 module _ (c : Composition) (key : ℕ) (o : List ℕ) (q : key_outcome c key ≡ writes (written_for c key))
     (l : length (written_for c key) ≤ length o) where
-  told_written : (k : ℕ) → k ≡ length (written_for c key) → Done k ≡ answer (key_outcome c key) (length o)
+  told_written : (k : ℕ) → k ≡ length (written_for c key) → Ok k ≡ answer (key_outcome c key) (length o)
   told_written k e = writes_answer _ _ q (length o) k l e
 
   comp_written : (keyed c key (length o)).comp ≡ key_next c key

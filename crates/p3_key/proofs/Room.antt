@@ -1,4 +1,5 @@
 -- With room for the letters of all cells the key never refuses by 3.
+use Rattle.std.specs.Prelude.{Err}
 use Prim.Native.Nat.{ℕ, ◌≤◌}
 use mathlib.Core.Path.{◌≡◌, refl}
 use mathlib.Core.Bool.{Bool, true, false}
@@ -9,7 +10,6 @@ use lib.ListN.{length}
 use borrow.Author.Tests.{ltb-false}
 use Rattle.p0_choice.specs.Choice.{pick}
 use Rattle.p0_refusals.specs.Answers.{writes, refuses, answer}
-use Rattle.p0_refusals.specs.declared.Answer.TheVariants.{Refused}
 use Rattle.p0_refusals.specs.declared.Refusal.TheVariants.{Foreign, Full, Short, Unsound}
 use Rattle.p0_refusals.proofs.Room.{Fits, enough}
 use Rattle.p1_letters.specs.Alphabet.{in_alphabet}
@@ -43,5 +43,5 @@ module _ (c : Composition) (key : ℕ) where
       go true false f e = λ q. let z : ◌≡◌ {A = ℕ} 0 1 = cc in omega arith
       go false a f e = λ q. let z : ◌≡◌ {A = ℕ} 0 1 = cc in omega arith
 
-  pub key_room : (n : ℕ) → limit ≤ n → answer (key_outcome c key) n ≡ Refused Short → ⊥
+  pub key_room : (n : ℕ) → limit ≤ n → answer (key_outcome c key) n ≡ Err Short → ⊥
   key_room n h = enough (key_outcome c key) limit n key_fits h

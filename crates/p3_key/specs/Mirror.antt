@@ -1,7 +1,7 @@
 -- How the code holds things: no sentence of document 01 stands here, and no promise to a host leads here.
 -- How the code holds what a key does: the step, or nothing where it is refused, with how many letters are written and the
 -- answer. That this is document 01's answer is proved (proofs/Right).
-use Rattle.std.specs.Prelude.{ℕ, Bool, true, false, List, ltb, eqb}
+use Rattle.std.specs.Prelude.{ℕ, Bool, true, false, List, ltb, eqb, Err, Ok, Result}
 use Rattle.p0_choice.specs.Choice.{pick}
 use Rattle.p0_refusals.specs.declared.Refusal.{Refusal}
 use Rattle.p0_refusals.specs.declared.Refusal.TheVariants.{Foreign, Full, Short, Unsound}
@@ -10,8 +10,6 @@ use Rattle.p3_cells.specs.Cells.{limit}
 use Rattle.p3_cells.specs.Text.{shown}
 use Rattle.p3_cells.specs.declared.Cell.{Cell}
 use Rattle.p3_cells.specs.declared.Settings.{Settings}
-use Rattle.p0_refusals.specs.declared.Answer.{Answer}
-use Rattle.p0_refusals.specs.declared.Answer.TheVariants.{Done, Refused}
 use Rattle.p3_step.specs.Mirror.{still, step_of}
 use Rattle.p3_step.specs.declared.Step.{Step}
 use Rattle.p3_key.specs.Process.{in_mode}
@@ -26,18 +24,18 @@ unfoldable pub letter_for : Settings → ℕ → Cell → ℕ
 letter_for z key x = in_mode z.mode (shown z.capitals x) key
 
 -- ---- the step with the refusals; n cells are used, and the output has room letters
-abbrev pub stays : ℕ → ℕ → Answer → Stroke
+abbrev pub stays : ℕ → ℕ → Result ℕ Refusal → Stroke
 stays n letters answer = record { step = still n; letters = letters; answer = answer }
 
 abbrev pub no_stroke : Refusal → ℕ → Stroke
-no_stroke r n = stays n 0 (Refused r)
+no_stroke r n = stays n 0 (Err r)
 
 -- the key alone is written, or the letters of all cells
 abbrev pub wrote_key : ℕ → Stroke
-wrote_key n = stays n 1 (Done 1)
+wrote_key n = stays n 1 (Ok 1)
 
 abbrev pub wrote : Step → Stroke
-wrote s = record { step = s; letters = s.count; answer = Done s.count }
+wrote s = record { step = s; letters = s.count; answer = Ok s.count }
 
 unfoldable pub step_stroke : Step → ℕ → ℕ → Stroke
 step_stroke s n room = pick (ltb limit s.count) (no_stroke Full n) (pick (ltb room s.count) (no_stroke Short n) (wrote s))

@@ -11,7 +11,7 @@ ghost use Rattle.p3_cells.specs.Mirror.{row_cells};
 ghost use Rattle.p3_key.specs.Process.{key_outcome, keyed};
 ghost use Rattle.p3_key.specs.Mirror.{sound_by, letter_for, stays, no_stroke, step_stroke, pass_stroke, stroke_of};
 
-use p0_refusals::{Answer, Refusal};
+use p0_refusals::{Refusal};
 use p1_letters as letters;
 use p3_cells as cells;
 use p3_cells::{After, Cell, Composition, LIMIT, Mode, Settings};
@@ -23,7 +23,7 @@ use p3_step::{Change, Step};
 pub struct Stroke {
     pub step: Step,
     pub letters: usize,
-    pub answer: Answer,
+    pub answer: Result<usize, Refusal>,
 }
 
 // ---- the letters and the refusals
@@ -39,7 +39,7 @@ fn letter_for(z: Settings, key: u32, x: Cell) -> u32
 }
 
 // No cell changes.
-fn stay(n: usize, letters: usize, answer: Answer) -> Stroke
+fn stay(n: usize, letters: usize, answer: Result<usize, Refusal>) -> Stroke
     ensures { result ≡ stays n letters answer }
 {
     Stroke {
@@ -58,7 +58,7 @@ fn stay(n: usize, letters: usize, answer: Answer) -> Stroke
 fn refuse(r: Refusal, n: usize) -> Stroke
     ensures { result ≡ no_stroke r n }
 {
-    stay(n, 0, Answer::Refused(r))
+    stay(n, 0, Err(r))
 }
 
 fn step_stroke(s: Step, n: usize, room: usize) -> Stroke
@@ -74,7 +74,7 @@ fn step_stroke(s: Step, n: usize, room: usize) -> Stroke
     Stroke {
         step: s,
         letters: count,
-        answer: Answer::Done(count),
+        answer: Ok(count),
     }
 }
 
@@ -84,7 +84,7 @@ fn pass_stroke(n: usize, room: usize) -> Stroke
     if room < 1 {
         return refuse(Refusal::Short, n);
     }
-    stay(n, 1, Answer::Done(1))
+    stay(n, 1, Ok(1))
 }
 
 // What the key does. The places lie in the array, and the letters fit into it and into the output.

@@ -1,5 +1,6 @@
 -- The places of uo, ua and mark in document 01's words: a place is found exactly where it is within reach, fits, and nothing
 -- nearer to the end fits; and where none is found, none within reach fits.
+use Rattle.std.specs.Prelude.{None, Option, Some}
 use Prim.Native.Nat.{ℕ, zero, suc, ◌+◌, ◌-◌, ◌<◌, ◌≤◌}
 use Prim.Native.Char.{code}
 use mathlib.Core.Path.{◌≡◌, refl, sym, ap, ◌∙◌}
@@ -18,8 +19,6 @@ use Rattle.p1_letters.specs.Vowels.{vowels, is_vowel}
 use Rattle.p2_input_method.specs.Rules.{mark_for}
 use Rattle.p2_input_method.specs.declared.InputMethod.{InputMethod}
 use Rattle.p3_cells.specs.declared.Cell.{Cell}
-use Rattle.p3_cells.specs.declared.Place.{Place}
-use Rattle.p3_cells.specs.declared.Place.TheVariants.{Nowhere, At}
 use Rattle.p3_marks.specs.Uo.{base_at, uo_back, uo_place}
 use Rattle.p3_marks.specs.Ua.{after_q, ua_place}
 use Rattle.p3_marks.specs.Mark.{mark_back, mark_place}
@@ -32,14 +31,14 @@ pub record MarkAt (m : InputMethod) (cs : List Cell) (k n i j : ℕ) : Type 0 wh
   pub nearest : (p : ℕ) → j < p → p < i → mark_for m (base_at cs p) k ≡ 0
 
 module _ (m : InputMethod) (cs : List Cell) (k : ℕ) where
-  mark_is : (n i j : ℕ) → mark_back m cs k n i ≡ At j → MarkAt m cs k n i j
+  mark_is : (n i j : ℕ) → mark_back m cs k n i ≡ Some j → MarkAt m cs k n i j
   unfolding mark_back
   mark_is zero i j e = let z : ◌≡◌ {A = ℕ} 0 1 = cc in absurd (omega arith)
   mark_is (suc n) zero j e = let z : ◌≡◌ {A = ℕ} 0 1 = cc in absurd (omega arith)
-  mark_is (suc n) (suc i) j e = go (eqb (mark_for m (base_at cs i) k) 0) refl e (λ (f : mark_back m cs k n i ≡ At j). mark_is n i j f)
+  mark_is (suc n) (suc i) j e = go (eqb (mark_for m (base_at cs i) k) 0) refl e (λ (f : mark_back m cs k n i ≡ Some j). mark_is n i j f)
     where
-      go : (t : Bool) → eqb (mark_for m (base_at cs i) k) 0 ≡ t → pick t (mark_back m cs k n i) (At i) ≡ At j
-          → (mark_back m cs k n i ≡ At j → MarkAt m cs k n i j) → MarkAt m cs k (suc n) (suc i) j
+      go : (t : Bool) → eqb (mark_for m (base_at cs i) k) 0 ≡ t → pick t (mark_back m cs k n i) (Some i) ≡ Some j
+          → (mark_back m cs k n i ≡ Some j → MarkAt m cs k n i j) → MarkAt m cs k (suc n) (suc i) j
       go true q f g =
           let r = g f in
           let b = r.below in
@@ -58,14 +57,14 @@ module _ (m : InputMethod) (cs : List Cell) (k : ℕ) where
             nearest = λ p h s. absurd (omega arith);
           }
 
-  is_mark : (n i j : ℕ) → MarkAt m cs k n i j → mark_back m cs k n i ≡ At j
+  is_mark : (n i j : ℕ) → MarkAt m cs k n i j → mark_back m cs k n i ≡ Some j
   unfolding mark_back
   is_mark zero i j r = let b = r.below in let l = r.reach in absurd (omega arith)
   is_mark (suc n) zero j r = let b = r.below in absurd (omega arith)
   is_mark (suc n) (suc i) j r = go (below_or_not j i) (λ (f : MarkAt m cs k n i j). is_mark n i j f)
     where
-      go : (j < i) ⊎ (i ≤ j) → (MarkAt m cs k n i j → mark_back m cs k n i ≡ At j)
-          → pick (eqb (mark_for m (base_at cs i) k) 0) (mark_back m cs k n i) (At i) ≡ At j
+      go : (j < i) ⊎ (i ≤ j) → (MarkAt m cs k n i j → mark_back m cs k n i ≡ Some j)
+          → pick (eqb (mark_for m (base_at cs i) k) 0) (mark_back m cs k n i) (Some i) ≡ Some j
       go (inl l) g =
           let h = r.reach in
           rw (eq-eqb (mark_for m (base_at cs i) k) 0 (r.nearest i l (omega arith)))
@@ -74,35 +73,35 @@ module _ (m : InputMethod) (cs : List Cell) (k : ℕ) where
           let b = r.below in
           let d : j ≡ i = omega arith in
           let f : mark_for m (base_at cs i) k ≡ 0 → ⊥ = rw d at r.rule in
-          rw (ne_eqb (mark_for m (base_at cs i) k) 0 f) (ap At (sym d))
+          rw (ne_eqb (mark_for m (base_at cs i) k) 0 f) (ap Some (sym d))
 
-  no_mark : (n i : ℕ) → mark_back m cs k n i ≡ Nowhere → (p : ℕ) → p < i → i ≤ p + n → mark_for m (base_at cs p) k ≡ 0
+  no_mark : (n i : ℕ) → mark_back m cs k n i ≡ None → (p : ℕ) → p < i → i ≤ p + n → mark_for m (base_at cs p) k ≡ 0
   unfolding mark_back
   no_mark zero i e p h l = absurd (omega arith)
   no_mark (suc n) zero e p h l = absurd (omega arith)
   no_mark (suc n) (suc i) e p h l =
       go (eqb (mark_for m (base_at cs i) k) 0) refl e (below_or_not p i)
-      (λ (f : mark_back m cs k n i ≡ Nowhere) (b : p < i). no_mark n i f p b (omega arith))
+      (λ (f : mark_back m cs k n i ≡ None) (b : p < i). no_mark n i f p b (omega arith))
     where
-      go : (t : Bool) → eqb (mark_for m (base_at cs i) k) 0 ≡ t → pick t (mark_back m cs k n i) (At i) ≡ Nowhere → (p < i) ⊎ (i ≤ p)
-          → (mark_back m cs k n i ≡ Nowhere → p < i → mark_for m (base_at cs p) k ≡ 0) → mark_for m (base_at cs p) k ≡ 0
+      go : (t : Bool) → eqb (mark_for m (base_at cs i) k) 0 ≡ t → pick t (mark_back m cs k n i) (Some i) ≡ None → (p < i) ⊎ (i ≤ p)
+          → (mark_back m cs k n i ≡ None → p < i → mark_for m (base_at cs p) k ≡ 0) → mark_for m (base_at cs p) k ≡ 0
       go true q f (inl b) g = g f b
       go true q f (inr b) g = let d : p ≡ i = omega arith in rw d (eqb-true (mark_for m (base_at cs i) k) 0 q)
       go false q f b g = let z : ◌≡◌ {A = ℕ} 0 1 = cc in absurd (omega arith)
 
-  pub mark_nowhere : mark_place m cs k ≡ Nowhere → (p : ℕ) → p < length cs → length cs ≤ p + 5 → mark_for m (base_at cs p) k ≡ 0
+  pub mark_nowhere : mark_place m cs k ≡ None → (p : ℕ) → p < length cs → length cs ≤ p + 5 → mark_for m (base_at cs p) k ≡ 0
   unfolding mark_place
   mark_nowhere e = no_mark 5 (length cs) e
 
   -- "From the last cell back over at most 5, any letters between: the first whose base with k is a rule"
-  pub mark_nearest : (j : ℕ) → (mark_place m cs k ≡ At j → MarkAt m cs k 5 (length cs) j)
-      × (MarkAt m cs k 5 (length cs) j → mark_place m cs k ≡ At j)
+  pub mark_nearest : (j : ℕ) → (mark_place m cs k ≡ Some j → MarkAt m cs k 5 (length cs) j)
+      × (MarkAt m cs k 5 (length cs) j → mark_place m cs k ≡ Some j)
   unfolding mark_place
   mark_nearest j = (mark_is 5 (length cs) j, is_mark 5 (length cs) j)
 
 -- where a place would be found, one is
-found : (P : ℕ → Type 0) (p : Place) → ((j : ℕ) → P j → p ≡ At j) → p ≡ Nowhere → (j : ℕ) → P j → ⊥
-found P p f e j h = let d : At j ≡ Nowhere = sym (f j h) ∙ e in let z : ◌≡◌ {A = ℕ} 0 1 = cc in omega arith
+found : (P : ℕ → Type 0) (p : Option ℕ) → ((j : ℕ) → P j → p ≡ Some j) → p ≡ None → (j : ℕ) → P j → ⊥
+found P p f e j h = let d : Some j ≡ None = sym (f j h) ∙ e in let z : ◌≡◌ {A = ℕ} 0 1 = cc in omega arith
 
 -- ---- *uo.* Of the last n of the first i cells one is an o after a u, at place j, and no vowel stands between it and the end.
 pub record UoAt (cs : List Cell) (n i j : ℕ) : Type 0 where
@@ -118,19 +117,19 @@ unfolding is_vowel ascii_lower is_ascii_capital vowels word
 no_o x v e = let y : true ≡ false = rw e at v in let z : ◌≡◌ {A = ℕ} 0 1 = cc in omega arith
 
 module _ (cs : List Cell) where
-  uo_is : (n i j : ℕ) → uo_back cs n i ≡ At j → UoAt cs n i j
+  uo_is : (n i j : ℕ) → uo_back cs n i ≡ Some j → UoAt cs n i j
   unfolding uo_back
   uo_is zero i j e = let z : ◌≡◌ {A = ℕ} 0 1 = cc in absurd (omega arith)
   uo_is (suc n) zero j e = let z : ◌≡◌ {A = ℕ} 0 1 = cc in absurd (omega arith)
   uo_is (suc n) (suc zero) j e = let z : ◌≡◌ {A = ℕ} 0 1 = cc in absurd (omega arith)
   uo_is (suc n) (suc (suc i)) j e =
       go (eqb (base_at cs (suc i)) 111) refl (eqb (base_at cs i) 117) refl (is_vowel (base_at cs (suc i))) refl e
-      (λ (f : uo_back cs n (suc i) ≡ At j). uo_is n (suc i) j f)
+      (λ (f : uo_back cs n (suc i) ≡ Some j). uo_is n (suc i) j f)
     where
       go : (a : Bool) → eqb (base_at cs (suc i)) 111 ≡ a → (b : Bool) → eqb (base_at cs i) 117 ≡ b
           → (v : Bool) → is_vowel (base_at cs (suc i)) ≡ v
-          → pick a (pick b (At i) Nowhere) (pick v Nowhere (uo_back cs n (suc i))) ≡ At j
-          → (uo_back cs n (suc i) ≡ At j → UoAt cs n (suc i) j) → UoAt cs (suc n) (suc (suc i)) j
+          → pick a (pick b (Some i) None) (pick v None (uo_back cs n (suc i))) ≡ Some j
+          → (uo_back cs n (suc i) ≡ Some j → UoAt cs n (suc i) j) → UoAt cs (suc n) (suc (suc i)) j
       go true p true q v s e f =
           let d : i ≡ j = cc in
           record {
@@ -152,16 +151,16 @@ module _ (cs : List Cell) where
           near r x t w (inl l) = r.between x t l
           near r x t w (inr l) = let d : x ≡ suc i = omega arith in rw d s
 
-  is_uo : (n i j : ℕ) → UoAt cs n i j → uo_back cs n i ≡ At j
+  is_uo : (n i j : ℕ) → UoAt cs n i j → uo_back cs n i ≡ Some j
   unfolding uo_back
   is_uo zero i j r = let l = r.below in let h = r.reach in absurd (omega arith)
   is_uo (suc n) zero j r = let l = r.below in absurd (omega arith)
   is_uo (suc n) (suc zero) j r = let l = r.below in absurd (omega arith)
   is_uo (suc n) (suc (suc i)) j r = go (below_or_not j i) (λ (f : UoAt cs n (suc i) j). is_uo n (suc i) j f)
     where
-      go : (j < i) ⊎ (i ≤ j) → (UoAt cs n (suc i) j → uo_back cs n (suc i) ≡ At j)
-          → pick (eqb (base_at cs (suc i)) 111) (pick (eqb (base_at cs i) 117) (At i) Nowhere)
-          (pick (is_vowel (base_at cs (suc i))) Nowhere (uo_back cs n (suc i))) ≡ At j
+      go : (j < i) ⊎ (i ≤ j) → (UoAt cs n (suc i) j → uo_back cs n (suc i) ≡ Some j)
+          → pick (eqb (base_at cs (suc i)) 111) (pick (eqb (base_at cs i) 117) (Some i) None)
+          (pick (is_vowel (base_at cs (suc i))) None (uo_back cs n (suc i))) ≡ Some j
       go (inl l) g =
           let v : is_vowel (base_at cs (suc i)) ≡ false = r.between (suc i) (omega arith) (omega arith) in
           let h = r.reach in
@@ -172,15 +171,15 @@ module _ (cs : List Cell) where
           let d : j ≡ i = omega arith in
           let o : base_at cs (suc i) ≡ 111 = rw d at r.o in
           let u : base_at cs i ≡ 117 = rw d at r.u in
-          rw (eq-eqb (base_at cs (suc i)) 111 o, eq-eqb (base_at cs i) 117 u) (ap At (sym d))
+          rw (eq-eqb (base_at cs (suc i)) 111 o, eq-eqb (base_at cs i) 117 u) (ap Some (sym d))
 
-  pub uo_nowhere : uo_place cs ≡ Nowhere → (j : ℕ) → UoAt cs 5 (length cs) j → ⊥
+  pub uo_nowhere : uo_place cs ≡ None → (j : ℕ) → UoAt cs 5 (length cs) j → ⊥
   unfolding uo_place
   uo_nowhere e = found (UoAt cs 5 (length cs)) (uo_place cs) (is_uo 5 (length cs)) e
 
   -- "From the last cell back, at most 5 cells and never the first cell, by base: an o after a u makes the pair .. Any other
   -- vowel ends the step."
-  pub uo_nearest : (j : ℕ) → (uo_place cs ≡ At j → UoAt cs 5 (length cs) j) × (UoAt cs 5 (length cs) j → uo_place cs ≡ At j)
+  pub uo_nearest : (j : ℕ) → (uo_place cs ≡ Some j → UoAt cs 5 (length cs) j) × (UoAt cs 5 (length cs) j → uo_place cs ≡ Some j)
   unfolding uo_place
   uo_nearest j = (uo_is 5 (length cs) j, is_uo 5 (length cs) j)
 
@@ -201,7 +200,7 @@ unfolding after_q
 no_after cs zero f = refl
 no_after cs (suc j) f = ne_eqb (base_at cs j) 113 (f j refl)
 
-ua_is : (cs : List Cell) (j : ℕ) → ua_place cs ≡ At j → UaAt cs j
+ua_is : (cs : List Cell) (j : ℕ) → ua_place cs ≡ Some j → UaAt cs j
 unfolding ua_place
 ua_is cs j e =
     go (ltb (length cs) 2) refl (eqb (base_at cs (length cs - 2)) 117) refl (eqb (base_at cs (length cs - 1)) 97) refl
@@ -210,7 +209,7 @@ ua_is cs j e =
     go : (s : Bool) → ltb (length cs) 2 ≡ s → (a : Bool) → eqb (base_at cs (length cs - 2)) 117 ≡ a
         → (b : Bool) → eqb (base_at cs (length cs - 1)) 97 ≡ b
         → (q : Bool) → after_q cs (length cs - 2) ≡ q
-        → pick s Nowhere (pick a (pick b (pick q Nowhere (At (length cs - 2))) Nowhere) Nowhere) ≡ At j → UaAt cs j
+        → pick s None (pick a (pick b (pick q None (Some (length cs - 2))) None) None) ≡ Some j → UaAt cs j
     go true g a h b k q l e = let z : ◌≡◌ {A = ℕ} 0 1 = cc in absurd (omega arith)
     go false g true h true k true l e = let z : ◌≡◌ {A = ℕ} 0 1 = cc in absurd (omega arith)
     go false g true h true k false l e =
@@ -226,7 +225,7 @@ ua_is cs j e =
     go false g true h false k q l e = let z : ◌≡◌ {A = ℕ} 0 1 = cc in absurd (omega arith)
     go false g false h b k q l e = let z : ◌≡◌ {A = ℕ} 0 1 = cc in absurd (omega arith)
 
-is_ua : (cs : List Cell) (j : ℕ) → UaAt cs j → ua_place cs ≡ At j
+is_ua : (cs : List Cell) (j : ℕ) → UaAt cs j → ua_place cs ≡ Some j
 unfolding ua_place
 is_ua cs j r =
     let n = r.last in
@@ -241,9 +240,9 @@ is_ua cs j r =
       no_after cs j r.no_q,
     ) refl
 
-pub ua_nowhere : (cs : List Cell) → ua_place cs ≡ Nowhere → (j : ℕ) → UaAt cs j → ⊥
+pub ua_nowhere : (cs : List Cell) → ua_place cs ≡ None → (j : ℕ) → UaAt cs j → ⊥
 ua_nowhere cs e = found (UaAt cs) (ua_place cs) (is_ua cs) e
 
 -- "Last two bases u a, no q before"
-pub ua_exactly : (cs : List Cell) (j : ℕ) → (ua_place cs ≡ At j → UaAt cs j) × (UaAt cs j → ua_place cs ≡ At j)
+pub ua_exactly : (cs : List Cell) (j : ℕ) → (ua_place cs ≡ Some j → UaAt cs j) × (UaAt cs j → ua_place cs ≡ Some j)
 ua_exactly cs j = (ua_is cs j, is_ua cs j)

@@ -1,5 +1,6 @@
 -- The mark step's scan, as the code goes through it; that cells and the row of their bases have its place in common; and
 -- where that place can be.
+use Rattle.std.specs.Prelude.{None, Option, Some}
 use Prim.Native.Nat.{ℕ, zero, suc, ◌-◌, ◌<◌, ◌≤◌}
 use mathlib.Core.Path.{◌≡◌, refl, sym, ◌∙◌}
 use mathlib.Core.Bool.{Bool, true, false, not}
@@ -21,8 +22,6 @@ use Rattle.p3_marks.specs.Uo.{base_at}
 use Rattle.p3_marks.specs.Mark.{mark_back, mark_place}
 use Rattle.p3_marks.specs.Mirror.{is_mark_key}
 use Rattle.p3_marks.specs.Mirror.{mark_keys}
-use Rattle.p3_cells.specs.declared.Place.{Place}
-use Rattle.p3_cells.specs.declared.Place.TheVariants.{Nowhere, At}
 use Rattle.p3_marks.proofs.Base.{row_base, same_base, same_length}
 
 -- ---- the scan
@@ -31,7 +30,7 @@ unfolding mark_place
 mark_first m row k = rw (row_length row) refl
 
 turn : (m : InputMethod) (cs : List Cell) (k left i : ℕ) → 0 < left → 0 < i
-    → mark_back m cs k left i ≡ pick (eqb (mark_for m (base_at cs (i - 1)) k) 0) (mark_back m cs k (left - 1) (i - 1)) (At (i - 1))
+    → mark_back m cs k left i ≡ pick (eqb (mark_for m (base_at cs (i - 1)) k) 0) (mark_back m cs k (left - 1) (i - 1)) (Some (i - 1))
 unfolding mark_back
 turn m cs k zero i l h = absurd (omega arith)
 turn m cs k (suc n) zero l h = absurd (omega arith)
@@ -40,23 +39,23 @@ turn m cs k (suc n) (suc i) l h =
     let d : suc n - 1 ≡ n = omega arith in
     rw (a, d) refl
 
-few : (m : InputMethod) (cs : List Cell) (k left i : ℕ) → i ≡ 0 → mark_back m cs k left i ≡ Nowhere
+few : (m : InputMethod) (cs : List Cell) (k left i : ℕ) → i ≡ 0 → mark_back m cs k left i ≡ None
 unfolding mark_back
 few m cs k zero i h = refl
 few m cs k (suc n) zero h = refl
 few m cs k (suc n) (suc j) h = absurd (omega arith)
 
-module _ (m : InputMethod) (row : List ℕ) (k : ℕ) (s : Place) (left i : ℕ) (e : s ≡ mark_back m (row_cells row) k left i) where
-  pub mark_out_lem : left ≤ 0 → Nowhere ≡ s
+module _ (m : InputMethod) (row : List ℕ) (k : ℕ) (s : Option ℕ) (left i : ℕ) (e : s ≡ mark_back m (row_cells row) k left i) where
+  pub mark_out_lem : left ≤ 0 → None ≡ s
   unfolding mark_back
   mark_out_lem l = let d : left ≡ 0 = omega arith in rw (e, d) refl
 
   module _ (l : 0 < left) where
-    pub mark_end : i ≡ 0 → Nowhere ≡ s
+    pub mark_end : i ≡ 0 → None ≡ s
     mark_end h = sym (e ∙ few m (row_cells row) k left i h)
 
     module _ (b x : ℕ) (h : i ≡ 0 → ⊥) (p : b ≡ ascii_lower (get_or row (i - 1) 0)) (q : x ≡ mark_for m b k) where
-      pub mark_found : (x ≡ 0 → ⊥) → At (i - 1) ≡ s
+      pub mark_found : (x ≡ 0 → ⊥) → Some (i - 1) ≡ s
       mark_found t = rw (e, turn m (row_cells row) k left i l (omega arith), row_base row (i - 1), ← p, ← q, ne_eqb x 0 t) refl
 
       pub mark_on : x ≡ 0 → s ≡ mark_back m (row_cells row) k (left - 1) (i - 1)
@@ -74,13 +73,13 @@ none_in (r ∷ rs) b k e = go (eqb b r.first) (eqb k r.key) e (λ (f : among k (
     go true false e f = f e
     go false false e f = f e
 
-none_back : (m : InputMethod) (cs : List Cell) (k : ℕ) → is_mark_key m k ≡ false → (n i : ℕ) → mark_back m cs k n i ≡ Nowhere
+none_back : (m : InputMethod) (cs : List Cell) (k : ℕ) → is_mark_key m k ≡ false → (n i : ℕ) → mark_back m cs k n i ≡ None
 unfolding is_mark_key mark_back mark_for
 none_back m cs k e zero i = refl
 none_back m cs k e (suc n) zero = refl
 none_back m cs k e (suc n) (suc i) = rw (none_in (mark_rules m) (base_at cs i) k e) (none_back m cs k e n i)
 
-pub mark_no_key : (m : InputMethod) (cs : List Cell) (k : ℕ) (v : Bool) → v ≡ is_mark_key m k → not v ≡ true → Nowhere ≡ mark_place m cs k
+pub mark_no_key : (m : InputMethod) (cs : List Cell) (k : ℕ) (v : Bool) → v ≡ is_mark_key m k → not v ≡ true → None ≡ mark_place m cs k
 unfolding mark_place
 mark_no_key m cs k v e t = sym (none_back m cs k (sym e ∙ not-true v t) 5 (length cs))
 
@@ -89,19 +88,19 @@ pub record Marks (m : InputMethod) (cs : List Cell) (k i j : ℕ) : Type 0 where
   pub below : j < i
   pub rule : mark_for m (base_at cs j) k ≡ 0 → ⊥
 
-back_marks : (m : InputMethod) (cs : List Cell) (k n i j : ℕ) → mark_back m cs k n i ≡ At j → Marks m cs k i j
+back_marks : (m : InputMethod) (cs : List Cell) (k n i j : ℕ) → mark_back m cs k n i ≡ Some j → Marks m cs k i j
 unfolding mark_back
 back_marks m cs k zero i j e = let z : ◌≡◌ {A = ℕ} 0 1 = cc in absurd (omega arith)
 back_marks m cs k (suc n) zero j e = let z : ◌≡◌ {A = ℕ} 0 1 = cc in absurd (omega arith)
 back_marks m cs k (suc n) (suc i) j e =
-    go (eqb (mark_for m (base_at cs i) k) 0) refl e (λ (f : mark_back m cs k n i ≡ At j). back_marks m cs k n i j f)
+    go (eqb (mark_for m (base_at cs i) k) 0) refl e (λ (f : mark_back m cs k n i ≡ Some j). back_marks m cs k n i j f)
   where
-    go : (t : Bool) → eqb (mark_for m (base_at cs i) k) 0 ≡ t → pick t (mark_back m cs k n i) (At i) ≡ At j
-        → (mark_back m cs k n i ≡ At j → Marks m cs k i j) → Marks m cs k (suc i) j
+    go : (t : Bool) → eqb (mark_for m (base_at cs i) k) 0 ≡ t → pick t (mark_back m cs k n i) (Some i) ≡ Some j
+        → (mark_back m cs k n i ≡ Some j → Marks m cs k i j) → Marks m cs k (suc i) j
     go true f e g = let r = g e in let l = r.below in record { below = omega arith; rule = r.rule }
     go false f e g = let d : i ≡ j = cc in record { below = omega arith; rule = rw d at (eqb-false (mark_for m (base_at cs i) k) 0 f) }
 
-pub place_marks : (m : InputMethod) (cs : List Cell) (k j : ℕ) → mark_place m cs k ≡ At j → Marks m cs k (length cs) j
+pub place_marks : (m : InputMethod) (cs : List Cell) (k j : ℕ) → mark_place m cs k ≡ Some j → Marks m cs k (length cs) j
 unfolding mark_place
 place_marks m cs k j e = back_marks m cs k 5 (length cs) j e
 

@@ -1,13 +1,11 @@
 -- Document 01, "A key, step by step", *uo*.
-use Rattle.std.specs.Prelude.{ℕ, zero, suc, Bool, false, List, eqb, length, get_or, set}
+use Rattle.std.specs.Prelude.{ℕ, zero, suc, Bool, false, List, eqb, length, get_or, set, None, Option, Some}
 use Prim.Native.Char.{code}
 use Rattle.p0_choice.specs.Choice.{pick}
 use Rattle.p1_letters.specs.Alphabet.{ascii_lower}
 use Rattle.p1_letters.specs.Vowels.{is_vowel}
 use Rattle.p3_cells.specs.Cells.{blank}
 use Rattle.p3_cells.specs.declared.Cell.{Cell}
-use Rattle.p3_cells.specs.declared.Place.{Place}
-use Rattle.p3_cells.specs.declared.Place.TheVariants.{Nowhere, At}
 
 -- "every base .. read, in ASCII lower case"
 unfoldable pub base_at : List Cell → ℕ → ℕ
@@ -15,15 +13,15 @@ base_at cs i = ascii_lower (get_or cs i blank).base
 
 -- "From the last cell back, at most 5 cells and never the first cell, by base: an o after a u makes the pair .. Any other
 -- vowel ends the step." With i cells at hand, of which the last is looked at, n more may be; the place is the u's.
-unfoldable pub uo_back : List Cell → ℕ → ℕ → Place
-uo_back cs zero i = Nowhere
-uo_back cs (suc n) zero = Nowhere
-uo_back cs (suc n) (suc zero) = Nowhere
+unfoldable pub uo_back : List Cell → ℕ → ℕ → Option ℕ
+uo_back cs zero i = None
+uo_back cs (suc n) zero = None
+uo_back cs (suc n) (suc zero) = None
 uo_back cs (suc n) (suc (suc i)) =
-    pick (eqb (base_at cs (suc i)) (code "o")) (pick (eqb (base_at cs i) (code "u")) (At i) Nowhere)
-    (pick (is_vowel (base_at cs (suc i))) Nowhere (uo_back cs n (suc i)))
+    pick (eqb (base_at cs (suc i)) (code "o")) (pick (eqb (base_at cs i) (code "u")) (Some i) None)
+    (pick (is_vowel (base_at cs (suc i))) None (uo_back cs n (suc i)))
 
-unfoldable pub uo_place : List Cell → Place
+unfoldable pub uo_place : List Cell → Option ℕ
 uo_place cs = uo_back cs 5 (length cs)
 
 -- "ư takes the o's tone and the u's flag; ơ has no tone and no flag; the u's tone is lost."

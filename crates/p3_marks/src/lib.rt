@@ -11,17 +11,16 @@ ghost use Rattle.p3_marks.specs.Mirror.{is_mark_key};
 use p1_letters as letters;
 use p2_input_method as input_method;
 use p2_input_method::InputMethod;
-use p3_cells::Place;
 
 // The u of the pair: an o after a u among the last 5, with no other vowel on the way.
-pub fn find_uo(row: &[u32]) -> Place
+pub fn find_uo(row: &[u32]) -> Option<usize>
     ensures { result ≡ uo_place (row_cells row.now) }
 {
     let mut i = row.len();
     let mut left: usize = 5;
     while 0 < left {
         if i < 2 {
-            return Place::Nowhere;
+            return None;
         }
         i -= 1;
         left -= 1;
@@ -29,65 +28,65 @@ pub fn find_uo(row: &[u32]) -> Place
         if o == 111 {
             let u = letters::ascii_lower(row[i - 1]);
             if u == 117 {
-                return Place::At(i - 1);
+                return Some(i - 1);
             }
-            return Place::Nowhere;
+            return None;
         }
         if letters::is_vowel(o) {
-            return Place::Nowhere;
+            return None;
         }
     }
-    Place::Nowhere
+    None
 }
 
 // The u of a ua at the end, with no q before it.
-pub fn find_ua(row: &[u32]) -> Place
+pub fn find_ua(row: &[u32]) -> Option<usize>
     ensures { result ≡ ua_place (row_cells row.now) }
 {
     let n = row.len();
     if n < 2 {
-        return Place::Nowhere;
+        return None;
     }
     let u = letters::ascii_lower(row[n - 2]);
     if u != 117 {
-        return Place::Nowhere;
+        return None;
     }
     let a = letters::ascii_lower(row[n - 1]);
     if a != 97 {
-        return Place::Nowhere;
+        return None;
     }
     if n < 3 {
-        return Place::At(n - 2);
+        return Some(n - 2);
     }
     let q = letters::ascii_lower(row[n - 3]);
     if q == 113 {
-        return Place::Nowhere;
+        return None;
     }
-    Place::At(n - 2)
+    Some(n - 2)
 }
 
 // The last of the 5 whose base makes a rule with the key; most keys are in no rule, and need no scan.
-pub fn find_mark_backtrack(m: InputMethod, row: &[u32], k: u32) -> Place
+pub fn find_mark_backtrack(m: InputMethod, row: &[u32], k: u32) -> Option<usize>
     ensures { result ≡ mark_place m (row_cells row.now) k }
 {
     if !is_mark_key(m, k) {
-        return Place::Nowhere;
+        return None;
     }
     let mut i = row.len();
     let mut reach: usize = 5;
     while 0 < reach {
         if i == 0 {
-            return Place::Nowhere;
+            return None;
         }
         i -= 1;
         reach -= 1;
         let b = letters::ascii_lower(row[i]);
         let l = input_method::mark_for(m, b, k);
         if l != 0 {
-            return Place::At(i);
+            return Some(i);
         }
     }
-    Place::Nowhere
+    None
 }
 
 // The key of a mark rule. Neighbours stand in arms of their own.

@@ -1,4 +1,5 @@
 -- What a key leaves alone: it appends one cell, or changes one, or the two of a pair; every other cell stays.
+use Rattle.std.specs.Prelude.{None, Option, Some}
 use Prim.Native.Nat.{ℕ, suc, ◌<◌}
 use mathlib.Core.Path.{◌≡◌, refl}
 use mathlib.Core.List.{List, [], ◌∷◌, ◌++◌}
@@ -10,8 +11,6 @@ use Rattle.p3_cells.specs.declared.Settings.{Settings}
 use Rattle.p3_cells.specs.Cells.{typed}
 use Rattle.p3_cells.specs.Place.{place_or}
 use Rattle.p3_cells.specs.declared.Cell.{Cell}
-use Rattle.p3_cells.specs.declared.Place.{Place}
-use Rattle.p3_cells.specs.declared.Place.TheVariants.{Nowhere, At}
 use Rattle.p3_tone.specs.TonePlace.{any_vowel, tone_place}
 use Rattle.p3_tone.proofs.Bound.{vowel_some, tone_below}
 use Rattle.p3_marks.specs.Uo.{uo_place, uo_made}
@@ -28,10 +27,10 @@ pub data Framed (cs : List Cell) : List Cell → Type 0 where
   changes : (i : ℕ) (x : Cell) → i < length cs → Framed cs (set cs i x)
   changes_two : (i : ℕ) (x y : Cell) → suc i < length cs → Framed cs (set (set cs (suc i) y) i x)
 
-place_both : {A : Type 0} (P : A → Type 0) (p : Place) (made : ℕ → A) (later : A) → ((i : ℕ) → p ≡ At i → P (made i)) → P later
+place_both : {A : Type 0} (P : A → Type 0) (p : Option ℕ) (made : ℕ → A) (later : A) → ((i : ℕ) → p ≡ Some i → P (made i)) → P later
     → P (place_or p made later)
-place_both P Nowhere made later f g = g
-place_both P (At i) made later f g = f i refl
+place_both P None made later f g = g
+place_both P (Some i) made later f g = f i refl
 
 module _ (z : Settings) (cs : List Cell) (key : ℕ) where
   appended_frame : Framed cs (appended cs key)

@@ -1,4 +1,5 @@
 -- The step as numbers is document 01's step: stored in an array that begins with the cells, it makes the cells after the key.
+use Rattle.std.specs.Prelude.{None, Option, Some}
 use Prim.Native.Nat.{ℕ, suc, ◌+◌, ◌%◌, ◌<◌, ◌≤◌}
 use mathlib.Core.Path.{◌≡◌, refl, sym, ap, ◌∙◌}
 use mathlib.Core.Bool.{Bool, true, false}
@@ -22,8 +23,6 @@ use Rattle.p3_tone.proofs.Bound.{vowel_some, tone_below}
 use Rattle.p3_marks.specs.Uo.{base_at, uo_place, horn_u, horn_o, uo_made}
 use Rattle.p3_marks.specs.Ua.{ua_place, marked, ua_made}
 use Rattle.p3_marks.specs.Mark.{mark_place, mark_made}
-use Rattle.p3_cells.specs.declared.Place.{Place}
-use Rattle.p3_cells.specs.declared.Place.TheVariants.{Nowhere, At}
 use Rattle.p3_marks.proofs.Uo.{uo_below}
 use Rattle.p3_marks.proofs.Ua.{ua_below}
 use Rattle.p3_marks.proofs.Mark.{place_marks}
@@ -124,26 +123,26 @@ mark_step_makes : (z : Settings) (cs : List Cell) (key k : ℕ) → Makes z (mar
 unfolding mark_step mark_or_later mark_made
 mark_step_makes z cs key k = go (mark_place z.method cs k) refl
   where
-    go : (p : Place) → mark_place z.method cs k ≡ p
+    go : (p : Option ℕ) → mark_place z.method cs k ≡ p
         → Makes z (place_or p (λ i. marks_at (length cs) (mark_for z.method (base_at cs i) k) i) (appends_at (length cs))) cs
         (place_or p (λ i. set cs i (marked (get_or cs i blank) (mark_for z.method (base_at cs i) k))) (appended cs key)) key k
-    go Nowhere e = append_makes z cs key k
-    go (At i) e = mark_makes z cs i (mark_for z.method (base_at cs i) k) key k (place_marks z.method cs k i e).below
+    go None e = append_makes z cs key k
+    go (Some i) e = mark_makes z cs i (mark_for z.method (base_at cs i) k) key k (place_marks z.method cs k i e).below
 
 uo_step_makes : (z : Settings) (cs : List Cell) (key k : ℕ) → Makes z (uo_step z cs k) cs (horn_or_later z cs key k) key k
 unfolding uo_step ua_step uo_for ua_for horn_or_later ua_made
 uo_step_makes z cs key k = go (is_horn_key z.method k) (uo_place cs) (ua_place cs) refl refl
   where
-    go : (v : Bool) (p q : Place) → uo_place cs ≡ p → ua_place cs ≡ q
-        → Makes z (place_or (pick v p Nowhere) (pairs_at (length cs))
-        (place_or (pick v q Nowhere) (marks_at (length cs) 0x1b0) (mark_step z cs k))) cs
+    go : (v : Bool) (p q : Option ℕ) → uo_place cs ≡ p → ua_place cs ≡ q
+        → Makes z (place_or (pick v p None) (pairs_at (length cs))
+        (place_or (pick v q None) (marks_at (length cs) 0x1b0) (mark_step z cs k))) cs
         (pick v
         (place_or p (uo_made z.capitals cs) (place_or q (λ i. set cs i (marked (get_or cs i blank) 0x1b0)) (mark_or_later z cs key k)))
         (mark_or_later z cs key k)) key k
     go false p q e f = mark_step_makes z cs key k
-    go true (At i) q e f = pair_makes z cs i key k (uo_below cs i e)
-    go true Nowhere (At i) e f = mark_makes z cs i 0x1b0 key k (ua_below cs i f)
-    go true Nowhere Nowhere e f = mark_step_makes z cs key k
+    go true (Some i) q e f = pair_makes z cs i key k (uo_below cs i e)
+    go true None (Some i) e f = mark_makes z cs i 0x1b0 key k (ua_below cs i f)
+    go true None None e f = mark_step_makes z cs key k
 
 -- the step of a key makes the cells after the key
 pub step_makes : (z : Settings) (cs : List Cell) (key : ℕ)
@@ -152,7 +151,7 @@ unfolding step_of tone_for key_cells tone_made
 step_makes z cs key = go (is_tone_key z.method (ascii_lower key)) (any_vowel cs) refl refl
   where
     go : (u v : Bool) → is_tone_key z.method (ascii_lower key) ≡ u → any_vowel cs ≡ v
-        → Makes z (place_or (pick u (pick v (At (tone_place cs)) Nowhere) Nowhere)
+        → Makes z (place_or (pick u (pick v (Some (tone_place cs)) None) None)
         (tones_at (length cs)) (uo_step z cs (ascii_lower key)))
         cs
         (pick u (pick v (set cs (tone_place cs) (with_tone (get_or cs (tone_place cs) blank) (ascii_lower key)))

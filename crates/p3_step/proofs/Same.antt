@@ -1,4 +1,5 @@
 -- Cells in use and the row of their bases have their step in common.
+use Rattle.std.specs.Prelude.{None, Option, Some}
 use Prim.Native.Nat.{ℕ}
 use mathlib.Core.Path.{◌≡◌, refl}
 use mathlib.Core.Bool.{true}
@@ -15,8 +16,6 @@ use Rattle.p3_cells.specs.Mirror.{row_cells}
 use Rattle.p3_tone.proofs.Same.{any_same, tone_place_same}
 use Rattle.p3_marks.specs.Uo.{base_at}
 use Rattle.p3_marks.specs.Mark.{mark_place}
-use Rattle.p3_cells.specs.declared.Place.{Place}
-use Rattle.p3_cells.specs.declared.Place.TheVariants.{Nowhere, At}
 use Rattle.p3_marks.proofs.Base.{same_base, same_length}
 use Rattle.p3_marks.proofs.Uo.{uo_same}
 use Rattle.p3_marks.proofs.Ua.{ua_same}
@@ -27,12 +26,12 @@ mark_step_same : (z : Settings) (cs : List Cell) (k : ℕ) → mark_step z (row_
 unfolding mark_step
 mark_step_same z cs k = rw (mark_same z.method cs k) (go (mark_place z.method cs k))
   where
-    go : (p : Place)
+    go : (p : Option ℕ)
         → place_or p (λ i. marks_at (length (row_cells (bases cs))) (mark_for z.method (base_at (row_cells (bases cs)) i) k) i)
         (appends_at (length (row_cells (bases cs))))
         ≡ place_or p (λ i. marks_at (length cs) (mark_for z.method (base_at cs i) k) i) (appends_at (length cs))
-    go Nowhere = rw (same_length cs) refl
-    go (At i) = rw (same_base cs i, same_length cs) refl
+    go None = rw (same_length cs) refl
+    go (Some i) = rw (same_base cs i, same_length cs) refl
 
 uo_step_same : (z : Settings) (cs : List Cell) (k : ℕ) → uo_step z (row_cells (bases cs)) k ≡ uo_step z cs k
 unfolding uo_step ua_step uo_for ua_for

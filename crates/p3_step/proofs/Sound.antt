@@ -1,4 +1,5 @@
 -- The cells after a key are as soundness asks, where those before it are and the key is a letter.
+use Rattle.std.specs.Prelude.{None, Option, Some}
 use Prim.Native.Nat.{ℕ, suc, ◌<◌}
 use mathlib.Core.Path.{◌≡◌, refl}
 use mathlib.Core.Bool.{Bool, true, false}
@@ -19,8 +20,6 @@ use Rattle.p3_tone.proofs.Bound.{vowel_some, tone_below}
 use Rattle.p3_marks.specs.Uo.{base_at, uo_place, horn_u, horn_o, uo_made}
 use Rattle.p3_marks.specs.Ua.{ua_place, marked, ua_made}
 use Rattle.p3_marks.specs.Mark.{mark_place, mark_made}
-use Rattle.p3_cells.specs.declared.Place.{Place}
-use Rattle.p3_cells.specs.declared.Place.TheVariants.{Nowhere, At}
 use Rattle.p3_marks.proofs.Uo.{uo_below}
 use Rattle.p3_marks.proofs.Ua.{ua_below}
 use Rattle.p3_marks.proofs.Mark.{place_marks}
@@ -50,24 +49,24 @@ module _ (z : Settings) (cs : List Cell) (s : each is_cell cs ≡ true) where
     unfolding mark_or_later mark_made appended
     mark_kept k = go (mark_place z.method cs k) refl
       where
-        go : (p : Place) → mark_place z.method cs k ≡ p
+        go : (p : Option ℕ) → mark_place z.method cs k ≡ p
             → each is_cell (place_or p (λ i. set cs i (marked (get_or cs i blank) (mark_for z.method (base_at cs i) k)))
             (cs ++ (typed key ∷ []))) ≡ true
-        go Nowhere e = each_append is_cell cs (typed key) s (typed_cell_lem key a)
-        go (At i) e = let h = place_marks z.method cs k i e in
+        go None e = each_append is_cell cs (typed key) s (typed_cell_lem key a)
+        go (Some i) e = let h = place_marks z.method cs k i e in
             marked_kept i (mark_for z.method (base_at cs i) k) h.below (mark_for_mark z.method (base_at cs i) k h.rule)
 
     horn_kept : (k : ℕ) → each is_cell (horn_or_later z cs key k) ≡ true
     unfolding horn_or_later ua_made
     horn_kept k = go (is_horn_key z.method k) (uo_place cs) (ua_place cs) refl refl
       where
-        go : (v : Bool) (p q : Place) → uo_place cs ≡ p → ua_place cs ≡ q
+        go : (v : Bool) (p q : Option ℕ) → uo_place cs ≡ p → ua_place cs ≡ q
             → each is_cell (pick v (place_or p (uo_made z.capitals cs)
             (place_or q (λ i. set cs i (marked (get_or cs i blank) 0x1b0)) (mark_or_later z cs key k))) (mark_or_later z cs key k)) ≡ true
         go false p q e f = mark_kept k
-        go true (At i) q e f = pair_kept i (uo_below cs i e)
-        go true Nowhere (At i) e f = marked_kept i 0x1b0 (ua_below cs i f) horn_mark
-        go true Nowhere Nowhere e f = mark_kept k
+        go true (Some i) q e f = pair_kept i (uo_below cs i e)
+        go true None (Some i) e f = marked_kept i 0x1b0 (ua_below cs i f) horn_mark
+        go true None None e f = mark_kept k
 
     pub key_cells_kept : each is_cell (key_cells z cs key) ≡ true
     unfolding key_cells tone_made with_tone

@@ -1,7 +1,7 @@
 -- How the code holds things: no sentence of document 01 stands here, and no promise to a host leads here.
 -- How the code holds the step of a key: the place of a cell, what comes there, and how many cells there are then. That
 -- these numbers are document 01's step, key_cells, is proved (proofs/Makes).
-use Rattle.std.specs.Prelude.{ℕ, ◌+◌, ◌%◌, Bool, List, length}
+use Rattle.std.specs.Prelude.{ℕ, ◌+◌, ◌%◌, Bool, List, length, None, Option, Some}
 use Prim.Native.Char.{code}
 use Rattle.p0_choice.specs.Choice.{pick}
 use Rattle.p2_input_method.specs.Rules.{is_tone_key, is_horn_key, mark_for}
@@ -15,8 +15,6 @@ use Rattle.p3_tone.specs.TonePlace.{any_vowel, tone_place}
 use Rattle.p3_marks.specs.Uo.{base_at, uo_place, horn_u, horn_o}
 use Rattle.p3_marks.specs.Ua.{ua_place, marked}
 use Rattle.p3_marks.specs.Mark.{mark_place}
-use Rattle.p3_cells.specs.declared.Place.{Place}
-use Rattle.p3_cells.specs.declared.Place.TheVariants.{Nowhere, At}
 use Rattle.p3_step.specs.declared.Change.{Change}
 use Rattle.p3_step.specs.declared.Change.TheVariants.{Nothing, Tone, Mark, Pair, Append}
 use Rattle.p3_step.specs.declared.Step.{Step}
@@ -38,14 +36,14 @@ abbrev pub appends_at : ℕ → Step
 appends_at n = record { change = Append; at = n; also = n; mark = 0; count = n + 1 }
 
 -- ---- the step of a key
-unfoldable pub tone_for : Settings → List Cell → ℕ → Place
-tone_for z cs k = pick (is_tone_key z.method k) (pick (any_vowel cs) (At (tone_place cs)) Nowhere) Nowhere
+unfoldable pub tone_for : Settings → List Cell → ℕ → Option ℕ
+tone_for z cs k = pick (is_tone_key z.method k) (pick (any_vowel cs) (Some (tone_place cs)) None) None
 
-unfoldable pub uo_for : Settings → List Cell → ℕ → Place
-uo_for z cs k = pick (is_horn_key z.method k) (uo_place cs) Nowhere
+unfoldable pub uo_for : Settings → List Cell → ℕ → Option ℕ
+uo_for z cs k = pick (is_horn_key z.method k) (uo_place cs) None
 
-unfoldable pub ua_for : Settings → List Cell → ℕ → Place
-ua_for z cs k = pick (is_horn_key z.method k) (ua_place cs) Nowhere
+unfoldable pub ua_for : Settings → List Cell → ℕ → Option ℕ
+ua_for z cs k = pick (is_horn_key z.method k) (ua_place cs) None
 
 unfoldable pub mark_step : Settings → List Cell → ℕ → Step
 mark_step z cs k =

@@ -11,7 +11,7 @@ ghost use Rattle.p3_step.specs.Mirror.{tone_for, uo_for, ua_for, mark_step, ua_s
 use p1_letters as letters;
 use p2_input_method as input_method;
 use p3_cells as cells;
-use p3_cells::{Cell, Place, Settings};
+use p3_cells::{Cell, Settings};
 use p3_marks as marks;
 use p3_tone as place;
 
@@ -45,7 +45,7 @@ fn mark_step(z: Settings, row: &[u32], k: u32) -> Step
     let m = z.method;
     let f = marks::find_mark_backtrack(m, row, k);
     match f {
-        Place::At(i) => {
+        Some(i) => {
             let b = letters::ascii_lower(row[i]);
             let l = input_method::mark_for(m, b, k);
             Step {
@@ -56,7 +56,7 @@ fn mark_step(z: Settings, row: &[u32], k: u32) -> Step
                 count: n,
             }
         }
-        Place::Nowhere => Step {
+        None => Step {
             change: Change::Append,
             at: n,
             also: n,
@@ -66,12 +66,12 @@ fn mark_step(z: Settings, row: &[u32], k: u32) -> Step
     }
 }
 
-fn ua_place(z: Settings, row: &[u32], k: u32) -> Place
+fn ua_place(z: Settings, row: &[u32], k: u32) -> Option<usize>
     ensures { result ≡ ua_for z (row_cells row.now) k }
 {
     let m = z.method;
     if !input_method::is_horn_key(m, k) {
-        return Place::Nowhere;
+        return None;
     }
     marks::find_ua(row)
 }
@@ -82,23 +82,23 @@ fn ua_step(z: Settings, row: &[u32], k: u32) -> Step
 {
     let f = ua_place(z, row, k);
     match f {
-        Place::At(i) => Step {
+        Some(i) => Step {
             change: Change::Mark,
             at: i,
             also: i,
             mark: 0x1b0,
             count: row.len(),
         },
-        Place::Nowhere => mark_step(z, row, k),
+        None => mark_step(z, row, k),
     }
 }
 
-fn uo_place(z: Settings, row: &[u32], k: u32) -> Place
+fn uo_place(z: Settings, row: &[u32], k: u32) -> Option<usize>
     ensures { result ≡ uo_for z (row_cells row.now) k }
 {
     let m = z.method;
     if !input_method::is_horn_key(m, k) {
-        return Place::Nowhere;
+        return None;
     }
     marks::find_uo(row)
 }
@@ -109,23 +109,23 @@ fn uo_step(z: Settings, row: &[u32], k: u32) -> Step
 {
     let f = uo_place(z, row, k);
     match f {
-        Place::At(i) => Step {
+        Some(i) => Step {
             change: Change::Pair,
             at: i,
             also: i + 1,
             mark: 0,
             count: row.len(),
         },
-        Place::Nowhere => ua_step(z, row, k),
+        None => ua_step(z, row, k),
     }
 }
 
-fn tone_place(z: Settings, row: &[u32], k: u32) -> Place
+fn tone_place(z: Settings, row: &[u32], k: u32) -> Option<usize>
     ensures { result ≡ tone_for z (row_cells row.now) k }
 {
     let m = z.method;
     if !input_method::is_tone_key(m, k) {
-        return Place::Nowhere;
+        return None;
     }
     place::find_tone_position(row)
 }
@@ -136,14 +136,14 @@ pub fn first_step(z: Settings, row: &[u32], k: u32) -> Step
 {
     let f = tone_place(z, row, k);
     match f {
-        Place::At(i) => Step {
+        Some(i) => Step {
             change: Change::Tone,
             at: i,
             also: i,
             mark: 0,
             count: row.len(),
         },
-        Place::Nowhere => uo_step(z, row, k),
+        None => uo_step(z, row, k),
     }
 }
 

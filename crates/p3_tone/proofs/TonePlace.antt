@@ -1,4 +1,5 @@
 -- Whether the first vowel is dropped, which of the others is chosen, and the place that takes the tone, as the code goes.
+use Rattle.std.specs.Prelude.{None, Some}
 use Prim.Native.Nat.{ℕ, zero, suc, ◌+◌, ◌-◌, ◌<◌, ◌≤◌}
 use mathlib.Core.Path.{◌≡◌, refl, sym, ap, ◌∙◌}
 use mathlib.Core.Bool.{Bool, true, false, not}
@@ -14,7 +15,6 @@ use Rattle.p1_letters.specs.Vowels.{is_vowel}
 use Rattle.p3_cells.specs.Cells.{blank}
 use Rattle.p3_cells.specs.Text.{letter_of}
 use Rattle.p3_cells.specs.declared.Cell.{Cell}
-use Rattle.p3_cells.specs.declared.Place.TheVariants.{Nowhere, At}
 use Rattle.p3_cells.specs.Mirror.{row_cells}
 use Rattle.p3_cells.proofs.Row.{row_length, row_at}
 use Rattle.p3_tone.specs.TonePlace.{low_letter, low_base, any_vowel, syllable_start, vowel_places, gliding_pair, glides, kept}
@@ -120,9 +120,9 @@ module _ (row : List ℕ) (start : ℕ) (v : Seen) (e : start ≡ syllable_start
   place = rw (last_drop cs, ← e) refl
 
   pub place_last : (a : Bool) → v.count ≡ 0 → a ≡ any_vowel cs → not a ≡ false
-      → At (length row - 1) ≡ pick (any_vowel cs) (At (tone_place cs)) Nowhere
+      → Some (length row - 1) ≡ pick (any_vowel cs) (Some (tone_place cs)) None
   place_last a z q t =
-      rw (← q, not-false a t, place, ← row_length row) (ap At (none cs (drop start cs) start vs (sym count_is ∙ z)))
+      rw (← q, not-false a t, place, ← row_length row) (ap Some (none cs (drop start cs) start vs (sym count_is ∙ z)))
 
   module _ (n : v.count ≡ 0 → ⊥) where
     vowel_at : (k : ℕ) → k < length vs → SyllableVowel cs (get_or vs k 0)
@@ -155,15 +155,15 @@ module _ (row : List ℕ) (start : ℕ) (v : Seen) (e : start ≡ syllable_start
       unfolding seen_of
       drops = rw f at q
 
-      placed : i ≡ chosen cs (pick d (drop 1 vs) vs) → At i ≡ pick (any_vowel cs) (At (tone_place cs)) Nowhere
-      placed p = rw (any, place, ← some cs (drop start cs) start vs found, kept_by start (drop start cs) vs, ← drops) (ap At p)
+      placed : i ≡ chosen cs (pick d (drop 1 vs) vs) → Some i ≡ pick (any_vowel cs) (Some (tone_place cs)) None
+      placed p = rw (any, place, ← some cs (drop start cs) start vs found, kept_by start (drop start cs) vs, ← drops) (ap Some p)
 
       pub place_rest : d ≡ true → i ≡ choice cs (v.count - 1) v.second v.third v.before v.last
-          → At i ≡ pick (any_vowel cs) (At (tone_place cs)) Nowhere
+          → Some i ≡ pick (any_vowel cs) (Some (tone_place cs)) None
       unfolding seen_of
       place_rest t p = placed (rw t ((rw f at p) ∙ choice_rest cs vs (two (length vs) _ (sym drops ∙ t))))
 
       pub place_all : d ≡ false → i ≡ choice cs v.count v.first v.second v.before v.last
-          → At i ≡ pick (any_vowel cs) (At (tone_place cs)) Nowhere
+          → Some i ≡ pick (any_vowel cs) (Some (tone_place cs)) None
       unfolding seen_of chosen
       place_all t p = placed (rw t (rw f at p))

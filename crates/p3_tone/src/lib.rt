@@ -6,12 +6,11 @@ ghost use Rattle.std.specs.Prelude.{◌≡◌, false, ◌+◌, ◌<◌, ◌≤�
 ghost use Rattle.p0_choice.specs.Choice.{pick};
 ghost use Rattle.p3_cells.specs.Cells.{blank};
 ghost use Rattle.p3_cells.specs.Mirror.{row_cells};
-ghost use Rattle.p3_cells.specs.declared.Place.TheVariants.{Nowhere as nowhere, At as at};
+ghost use Rattle.std.specs.Prelude.{None as nowhere, Some as at};
 ghost use Rattle.p3_tone.specs.TonePlace.{any_vowel, syllable_start, vowel_places, gliding_pair, glides, rising_pair, rises, tone_place};
 ghost use Rattle.p3_tone.specs.Mirror.{seen_of};
 
 use p1_letters as letters;
-use p3_cells::Place;
 
 // What the choice asks of a syllable's vowels: how many there are, and the places of the first three and of the last two. With
 // numbers alone there is no array of places on the stack.
@@ -179,21 +178,21 @@ fn chosen(row: &[u32], n: usize, first: usize, second: usize, before: usize, las
 }
 
 // The cell that takes the tone, where there is a vowel at all.
-pub fn find_tone_position(row: &[u32]) -> Place
+pub fn find_tone_position(row: &[u32]) -> Option<usize>
     ensures { result ≡ pick (any_vowel (row_cells row.now)) (at (tone_place (row_cells row.now))) nowhere }
 {
     let s = last_syllable(row);
     let v = s.vowels;
     if v.count == 0 {
         if !any_vowel(row) {
-            return Place::Nowhere;
+            return None;
         }
-        return Place::At(row.len() - 1);
+        return Some(row.len() - 1);
     }
     if drops_first(row, s.start, v.count, v.first) {
         let i = chosen(row, v.count - 1, v.second, v.third, v.before, v.last);
-        return Place::At(i);
+        return Some(i);
     }
     let i = chosen(row, v.count, v.first, v.second, v.before, v.last);
-    Place::At(i)
+    Some(i)
 }

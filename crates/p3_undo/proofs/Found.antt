@@ -1,5 +1,6 @@
 -- What is found to be undone stands among the cells, and the letter that a rule gives back is one of the alphabet, small
 -- or capital.
+use Rattle.std.specs.Prelude.{None, Option, Some}
 use Prim.Native.Nat.{ℕ, zero, suc, ◌<◌}
 use mathlib.Core.Path.{◌≡◌, refl}
 use mathlib.Core.Bool.{Bool, true, false}
@@ -22,8 +23,6 @@ use Rattle.p3_cells.specs.declared.Composition.{Composition}
 use Rattle.p3_cells.proofs.Holding.{count_fits, used_length}
 use Rattle.p3_undo.specs.Raw.{ends_in, active}
 use Rattle.p3_undo.specs.Undo.{last_with, has_tone, has_mark, rule_at, by_rules, tone_at, to_undo}
-use Rattle.p3_cells.specs.declared.Place.{Place}
-use Rattle.p3_cells.specs.declared.Place.TheVariants.{Nowhere, At}
 use Rattle.p3_undo.specs.declared.Undoing.{Undoing}
 use Rattle.p3_undo.specs.declared.Undoing.TheVariants.{Nothing, Tone, Mark}
 
@@ -37,29 +36,29 @@ Fine n Nothing = Unit
 Fine n (Tone i) = i < n
 Fine n (Mark i r) = (i < n) × (gives r.first ≡ true)
 
-below : (p : Cell → Bool) (cs : List Cell) (n j : ℕ) → last_with p cs n ≡ At j → j < n
+below : (p : Cell → Bool) (cs : List Cell) (n j : ℕ) → last_with p cs n ≡ Some j → j < n
 unfolding last_with
 below p cs zero j e = let z : ◌≡◌ {A = ℕ} 0 1 = cc in absurd (omega arith)
 below p cs (suc n) j e = go (p (get_or cs n blank)) e (λ q. below p cs n j q)
   where
-    go : (b : Bool) → pick b (At n) (last_with p cs n) ≡ At j → (last_with p cs n ≡ At j → j < n) → j < suc n
+    go : (b : Bool) → pick b (Some n) (last_with p cs n) ≡ Some j → (last_with p cs n ≡ Some j → j < n) → j < suc n
     go true q f = let z : n ≡ j = cc in omega arith
     go false q f = omega (arith, f q)
 
-place_below : (b : Bool) (p : Place) (n j : ℕ) → pick b p Nowhere ≡ At j → (p ≡ At j → j < n) → j < n
+place_below : (b : Bool) (p : Option ℕ) (n j : ℕ) → pick b p None ≡ Some j → (p ≡ Some j → j < n) → j < n
 place_below true p n j e f = f e
 place_below false p n j e f = let z : ◌≡◌ {A = ℕ} 0 1 = cc in absurd (omega arith)
 
-next_fine : (n : ℕ) (p : Place) (made : ℕ → Undoing) (next : Undoing) → ((i : ℕ) → p ≡ At i → Fine n (made i)) → Fine n next
+next_fine : (n : ℕ) (p : Option ℕ) (made : ℕ → Undoing) (next : Undoing) → ((i : ℕ) → p ≡ Some i → Fine n (made i)) → Fine n next
     → Fine n (place_or p made next)
-next_fine n Nowhere made next f g = g
-next_fine n (At i) made next f g = f i refl
+next_fine n None made next f g = g
+next_fine n (Some i) made next f g = f i refl
 
 module _ (cs : List Cell) (raw : List ℕ) (t : ℕ) where
-  rule_below : (r : MarkRule) (j : ℕ) → rule_at cs raw t r ≡ At j → j < length cs
+  rule_below : (r : MarkRule) (j : ℕ) → rule_at cs raw t r ≡ Some j → j < length cs
   unfolding rule_at
   rule_below r j e =
-      place_below (eqb r.key t) (pick (active raw r.first r.key) (last_with (has_mark r.result) cs (length cs)) Nowhere)
+      place_below (eqb r.key t) (pick (active raw r.first r.key) (last_with (has_mark r.result) cs (length cs)) None)
       (length cs) j e
       (λ q. place_below (active raw r.first r.key) (last_with (has_mark r.result) cs (length cs)) (length cs) j q
       (λ h. below (has_mark r.result) cs (length cs) j h))
@@ -71,7 +70,7 @@ module _ (cs : List Cell) (raw : List ℕ) (t : ℕ) where
       next_fine (length cs) (rule_at cs raw t r) (λ (i : ℕ). Mark i r) (by_rules cs raw t rs)
       (λ i e. (rule_below r i e, pick_first (gives r.first) _ h)) (rules_fine rs (pick_second (gives r.first) _ h))
 
-  tone_below : (j : ℕ) → tone_at cs raw t ≡ At j → j < length cs
+  tone_below : (j : ℕ) → tone_at cs raw t ≡ Some j → j < length cs
   unfolding tone_at
   tone_below j e = place_below (ends_in raw t) (last_with (has_tone t) cs (length cs)) (length cs) j e
       (λ h. below (has_tone t) cs (length cs) j h)

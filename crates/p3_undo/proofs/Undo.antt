@@ -1,4 +1,5 @@
 -- What is to be undone, as the code finds it.
+use Rattle.std.specs.Prelude.{None, Option, Some}
 use Prim.Native.Nat.{ℕ, zero, suc, ◌+◌, ◌-◌, ◌<◌, ◌≤◌}
 use mathlib.Core.Path.{◌≡◌, refl, sym, ap, ◌∙◌}
 use mathlib.Core.Bool.{Bool, true, false, not}
@@ -22,8 +23,6 @@ use Rattle.p3_cells.specs.declared.Cell.{Cell}
 use Rattle.p3_undo.specs.Mirror.{bearing, sign_cells}
 use Rattle.p3_undo.specs.Raw.{ends_in, active}
 use Rattle.p3_undo.specs.Undo.{last_with, has_tone, has_mark, rule_at, by_rules, tone_at, to_undo, tone_lost, restored}
-use Rattle.p3_cells.specs.declared.Place.{Place}
-use Rattle.p3_cells.specs.declared.Place.TheVariants.{Nowhere, At}
 use Rattle.p3_undo.specs.declared.Undoing.{Undoing}
 use Rattle.p3_undo.specs.declared.Undoing.TheVariants.{Nothing, Tone, Mark}
 use Rattle.p3_undo.proofs.Signs.{row_length, row_at}
@@ -48,22 +47,22 @@ restored_capital a b x h e =
     (pick_true x.upper b (ascii_upper a) a (not-false x.upper h) e)
 
 -- ---- the last cell that passes a test
-module _ (p : Cell → Bool) (row : List ℕ) (s : Place) (i : ℕ) (e : s ≡ last_with p (sign_cells row) i) where
-  pub with_none : i ≤ 0 → Nowhere ≡ s
+module _ (p : Cell → Bool) (row : List ℕ) (s : Option ℕ) (i : ℕ) (e : s ≡ last_with p (sign_cells row) i) where
+  pub with_none : i ≤ 0 → None ≡ s
   unfolding last_with
   with_none l = let z : i ≡ 0 = omega arith in sym (e ∙ rw z refl)
 
   module _ (v : Bool) (h : 0 < i) (q : v ≡ p (bearing (get_or row (i - 1) 0))) where
-    with_turn : s ≡ pick v (At (i - 1)) (last_with p (sign_cells row) (i - 1))
+    with_turn : s ≡ pick v (Some (i - 1)) (last_with p (sign_cells row) (i - 1))
     unfolding last_with
     with_turn = e ∙ go i h ∙ rw (row_at row (i - 1), ← q) refl
       where
         go : (i : ℕ) → 0 < i
-            → last_with p (sign_cells row) i ≡ pick (p (get_or (sign_cells row) (i - 1) blank)) (At (i - 1)) (last_with p (sign_cells row) (i - 1))
+            → last_with p (sign_cells row) i ≡ pick (p (get_or (sign_cells row) (i - 1) blank)) (Some (i - 1)) (last_with p (sign_cells row) (i - 1))
         go zero h = absurd (omega arith)
         go (suc i) h = let x : suc i - 1 ≡ i = omega arith in rw x refl
 
-    pub with_found : v ≡ true → At (i - 1) ≡ s
+    pub with_found : v ≡ true → Some (i - 1) ≡ s
     with_found t = sym (with_turn ∙ rw t refl)
 
     pub with_on : v ≡ false → s ≡ last_with p (sign_cells row) (i - 1)
@@ -71,16 +70,16 @@ module _ (p : Cell → Bool) (row : List ℕ) (s : Place) (i : ℕ) (e : s ≡ l
 
 -- ---- the rules
 module _ (row raw : List ℕ) (t : ℕ) (r : MarkRule) where
-  pub rule_key : (r.key ≡ t → ⊥) → Nowhere ≡ rule_at (sign_cells row) raw t r
+  pub rule_key : (r.key ≡ t → ⊥) → None ≡ rule_at (sign_cells row) raw t r
   unfolding rule_at
   rule_key h = rw (ne_eqb r.key t h) refl
 
   module _ (v : Bool) (h : r.key ≡ t) (e : v ≡ active raw r.first r.key) where
-    pub rule_idle : not v ≡ true → Nowhere ≡ rule_at (sign_cells row) raw t r
+    pub rule_idle : not v ≡ true → None ≡ rule_at (sign_cells row) raw t r
     unfolding rule_at
     rule_idle q = rw (eq-eqb r.key t h, ← e, not-true v q) refl
 
-    pub rule_last : (p : Place) → not v ≡ false → p ≡ last_with (has_mark r.result) (sign_cells row) (length row)
+    pub rule_last : (p : Option ℕ) → not v ≡ false → p ≡ last_with (has_mark r.result) (sign_cells row) (length row)
         → p ≡ rule_at (sign_cells row) raw t r
     unfolding rule_at
     rule_last p q f = rw (eq-eqb r.key t h, ← e, not-false v q, row_length row) f
@@ -90,24 +89,24 @@ module _ (cs : List Cell) (raw : List ℕ) (t : ℕ) (s : Undoing) (i : ℕ) (e 
   unfolding by_rules mark_rules
   rules_none l = sym (e ∙ rw (drop_of_length-le (mark_rules Telex) l) refl)
 
-  module _ (r : MarkRule) (p : Place) (l : i < 7) (f : r ≡ get_or (mark_rules Telex) i no_rule) (q : p ≡ rule_at cs raw t r) where
+  module _ (r : MarkRule) (p : Option ℕ) (l : i < 7) (f : r ≡ get_or (mark_rules Telex) i no_rule) (q : p ≡ rule_at cs raw t r) where
     rules_turn : s ≡ place_or p (λ (j : ℕ). Mark j r) (by_rules cs raw t (drop (i + 1) (mark_rules Telex)))
     unfolding by_rules mark_rules
     rules_turn = e ∙ rw (add-one i, drop-cons (mark_rules Telex) i no_rule l, ← f, ← q) refl
 
-    pub rules_found : (j : ℕ) → p ≡ At j → Mark j r ≡ s
+    pub rules_found : (j : ℕ) → p ≡ Some j → Mark j r ≡ s
     rules_found j h = sym (rules_turn ∙ rw h refl)
 
-    pub rules_on : p ≡ Nowhere → s ≡ by_rules cs raw t (drop (i + 1) (mark_rules Telex))
+    pub rules_on : p ≡ None → s ≡ by_rules cs raw t (drop (i + 1) (mark_rules Telex))
     rules_on h = rules_turn ∙ rw h refl
 
 -- ---- the tone
 module _ (row raw : List ℕ) (t : ℕ) (v : Bool) (e : v ≡ ends_in raw t) where
-  pub tone_no : not v ≡ true → Nowhere ≡ tone_at (sign_cells row) raw t
+  pub tone_no : not v ≡ true → None ≡ tone_at (sign_cells row) raw t
   unfolding tone_at
   tone_no q = rw (← e, not-true v q) refl
 
-  pub tone_last : (p : Place) → not v ≡ false → p ≡ last_with (has_tone t) (sign_cells row) (length row) → p ≡ tone_at (sign_cells row) raw t
+  pub tone_last : (p : Option ℕ) → not v ≡ false → p ≡ last_with (has_tone t) (sign_cells row) (length row) → p ≡ tone_at (sign_cells row) raw t
   unfolding tone_at
   tone_last p q f = rw (← e, not-false v q, row_length row) f
 
@@ -116,11 +115,11 @@ pub undo_vni : (m : InputMethod) (cs : List Cell) (raw : List ℕ) (t : ℕ) →
 unfolding to_undo
 undo_vni m cs raw t e = rw e refl
 
-module _ (m : InputMethod) (cs : List Cell) (raw : List ℕ) (t : ℕ) (p : Place) (e : m ≡ Telex) (f : p ≡ tone_at cs raw t) where
-  pub undo_tone : (i : ℕ) → p ≡ At i → Tone i ≡ to_undo m cs raw t
+module _ (m : InputMethod) (cs : List Cell) (raw : List ℕ) (t : ℕ) (p : Option ℕ) (e : m ≡ Telex) (f : p ≡ tone_at cs raw t) where
+  pub undo_tone : (i : ℕ) → p ≡ Some i → Tone i ≡ to_undo m cs raw t
   unfolding to_undo
   undo_tone i h = rw (e, ← f, h) refl
 
-  pub undo_mark : (r : Undoing) → p ≡ Nowhere → r ≡ by_rules cs raw t (mark_rules Telex) → r ≡ to_undo m cs raw t
+  pub undo_mark : (r : Undoing) → p ≡ None → r ≡ by_rules cs raw t (mark_rules Telex) → r ≡ to_undo m cs raw t
   unfolding to_undo
   undo_mark r h q = rw (e, ← f, h) q

@@ -1,5 +1,5 @@
 -- Document 01: "Undo (trigger t in lower case, raw string): only under Telex." Over the cells in use.
-use Rattle.std.specs.Prelude.{ℕ, zero, suc, Bool, false, List, [], ◌∷◌, eqb, length, get_or, set}
+use Rattle.std.specs.Prelude.{ℕ, zero, suc, Bool, false, List, [], ◌∷◌, eqb, length, get_or, set, None, Option, Some}
 use Rattle.p0_choice.specs.Choice.{pick}
 use Rattle.p1_letters.specs.Alphabet.{ascii_upper}
 use Rattle.p2_input_method.specs.Rules.{mark_rules}
@@ -10,15 +10,13 @@ use Rattle.p3_cells.specs.Cells.{blank}
 use Rattle.p3_cells.specs.Place.{place_or}
 use Rattle.p3_cells.specs.declared.Cell.{Cell}
 use Rattle.p3_undo.specs.Raw.{ends_in, active}
-use Rattle.p3_cells.specs.declared.Place.{Place}
-use Rattle.p3_cells.specs.declared.Place.TheVariants.{Nowhere, At}
 use Rattle.p3_undo.specs.declared.Undoing.{Undoing}
 use Rattle.p3_undo.specs.declared.Undoing.TheVariants.{Nothing, Tone, Mark}
 
 -- the last of the first n cells that passes a test
-unfoldable pub last_with : (Cell → Bool) → List Cell → ℕ → Place
-last_with p cs zero = Nowhere
-last_with p cs (suc i) = pick (p (get_or cs i blank)) (At i) (last_with p cs i)
+unfoldable pub last_with : (Cell → Bool) → List Cell → ℕ → Option ℕ
+last_with p cs zero = None
+last_with p cs (suc i) = pick (p (get_or cs i blank)) (Some i) (last_with p cs i)
 
 -- a cell "with tone t"; 0 stands for none, and U+0000 is a letter that can be the trigger
 unfoldable pub has_tone : ℕ → Cell → Bool
@@ -30,9 +28,9 @@ has_mark m x = pick (eqb x.mark m) (eqb x.tone 0) false
 
 -- a rule "ending in t .. whose last occurrence in the lowered raw string has none of a e i o u y after it: the last cell
 -- with that mark and no tone"
-unfoldable pub rule_at : List Cell → List ℕ → ℕ → MarkRule → Place
+unfoldable pub rule_at : List Cell → List ℕ → ℕ → MarkRule → Option ℕ
 rule_at cs raw t r =
-    pick (eqb r.key t) (pick (active raw r.first r.key) (last_with (has_mark r.result) cs (length cs)) Nowhere) Nowhere
+    pick (eqb r.key t) (pick (active raw r.first r.key) (last_with (has_mark r.result) cs (length cs)) None) None
 
 -- "each mark rule .. in order", "No such cell: next rule."
 unfoldable pub by_rules : List Cell → List ℕ → ℕ → List MarkRule → Undoing
@@ -40,8 +38,8 @@ by_rules cs raw t [] = Nothing
 by_rules cs raw t (r ∷ rs) = place_or (rule_at cs raw t r) (λ i. Mark i r) (by_rules cs raw t rs)
 
 -- "If the raw string ends in t, either case, the last cell with tone t [..] Otherwise each mark rule"
-unfoldable pub tone_at : List Cell → List ℕ → ℕ → Place
-tone_at cs raw t = pick (ends_in raw t) (last_with (has_tone t) cs (length cs)) Nowhere
+unfoldable pub tone_at : List Cell → List ℕ → ℕ → Option ℕ
+tone_at cs raw t = pick (ends_in raw t) (last_with (has_tone t) cs (length cs)) None
 
 -- "only under Telex"; "VNI has none."
 unfoldable pub to_undo : InputMethod → List Cell → List ℕ → ℕ → Undoing

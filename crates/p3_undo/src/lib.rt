@@ -19,7 +19,7 @@ use p1_letters as letters;
 use p2_input_method as input_method;
 use p2_input_method::{InputMethod, MarkRule};
 use p3_cells as cells;
-use p3_cells::{Cell, Composition, LIMIT, Place};
+use p3_cells::{Cell, Composition, LIMIT};
 
 // What becomes of the trigger, or why nothing was undone.
 #[derive(Clone, Copy)]
@@ -146,42 +146,42 @@ fn has_mark(m: u16, s: u32) -> bool
     s / 65536 == 0
 }
 
-fn last_toned(row: &[u32], t: u32) -> Place
+fn last_toned(row: &[u32], t: u32) -> Option<usize>
     ensures { result ≡ last_with (has_tone t) (sign_cells row.now) (length row.now) }
 {
     let mut i = row.len();
     while 0 < i {
         i -= 1;
         if has_tone(t, row[i]) {
-            return Place::At(i);
+            return Some(i);
         }
     }
-    Place::Nowhere
+    None
 }
 
-fn last_marked(row: &[u32], m: u16) -> Place
+fn last_marked(row: &[u32], m: u16) -> Option<usize>
     ensures { result ≡ last_with (has_mark m) (sign_cells row.now) (length row.now) }
 {
     let mut i = row.len();
     while 0 < i {
         i -= 1;
         if has_mark(m, row[i]) {
-            return Place::At(i);
+            return Some(i);
         }
     }
-    Place::Nowhere
+    None
 }
 
 // ---- what is to be undone
 
-fn rule_at(row: &[u32], raw: &[u32], t: u32, r: MarkRule) -> Place
+fn rule_at(row: &[u32], raw: &[u32], t: u32, r: MarkRule) -> Option<usize>
     ensures { result ≡ rule_at (sign_cells row.now) (raw_lowered raw.now) t r }
 {
     if r.key != t {
-        return Place::Nowhere;
+        return None;
     }
     if !has_active_mark_pattern(raw, r.first, r.key) {
-        return Place::Nowhere;
+        return None;
     }
     last_marked(row, r.result)
 }
@@ -193,7 +193,7 @@ fn by_rules(row: &[u32], raw: &[u32], t: u32) -> Undoing
     while i < input_method::TELEX_RULES {
         let r = input_method::telex_rule(i);
         let p = rule_at(row, raw, t, r);
-        if let Place::At(j) = p {
+        if let Some(j) = p {
             return Undoing::Mark(j, r);
         }
         i += 1;
@@ -201,11 +201,11 @@ fn by_rules(row: &[u32], raw: &[u32], t: u32) -> Undoing
     Undoing::Nothing
 }
 
-fn tone_at(row: &[u32], raw: &[u32], t: u32) -> Place
+fn tone_at(row: &[u32], raw: &[u32], t: u32) -> Option<usize>
     ensures { result ≡ tone_at (sign_cells row.now) (raw_lowered raw.now) t }
 {
     if !ends_in(raw, t) {
-        return Place::Nowhere;
+        return None;
     }
     last_toned(row, t)
 }
@@ -218,7 +218,7 @@ pub fn to_undo(m: InputMethod, row: &[u32], raw: &[u32], t: u32) -> Undoing
         return Undoing::Nothing;
     }
     let p = tone_at(row, raw, t);
-    if let Place::At(i) = p {
+    if let Some(i) = p {
         return Undoing::Tone(i);
     }
     by_rules(row, raw, t)

@@ -1,11 +1,10 @@
 -- What is answered of a line, by its refusal if it has one.
+use Rattle.std.specs.Prelude.{Err, Ok, Result}
 use Prim.Native.Nat.{ℕ, suc, ◌+◌, ◌≤◌, ◌<◌}
 use mathlib.Core.Path.{◌≡◌, refl, sym, ap, ◌∙◌}
 use mathlib.Core.List.{List, [], ◌∷◌}
 use native.Mathlib.Omega.{arith}
 use lib.ListN.{length}
-use Rattle.p0_refusals.specs.declared.Answer.{Answer}
-use Rattle.p0_refusals.specs.declared.Answer.TheVariants.{Done, Refused}
 use Rattle.p0_refusals.specs.declared.Refusal.{Refusal}
 use Rattle.p0_refusals.specs.declared.Refusal.TheVariants as Refusals
 use Rattle.p4_note_line.specs.declared.Checked.TheVariants as Checks
@@ -19,16 +18,16 @@ use Rattle.p4_note_line.proofs.Tally.{tally_tells}
 
 -- a line with no refusal has its length within the limit
 module _ (at run x n m : ℕ) where
-  more : (t : Taken) → t ≡ taking at run x → (g l : Answer)
-      → (at < line_limit → g ≡ Done n → (n ≡ suc at + m) × (n ≤ line_limit))
-      → (at < line_limit → l ≡ Done n → (n ≡ suc at + m) × (n ≤ line_limit))
-      → whether t g l (Refused Refusals.Foreign) (Refused Refusals.Long) ≡ Done n → (n ≡ suc at + m) × (n ≤ line_limit)
+  more : (t : Taken) → t ≡ taking at run x → (g l : Result ℕ Refusal)
+      → (at < line_limit → g ≡ Ok n → (n ≡ suc at + m) × (n ≤ line_limit))
+      → (at < line_limit → l ≡ Ok n → (n ≡ suc at + m) × (n ≤ line_limit))
+      → whether t g l (Err Refusals.Foreign) (Err Refusals.Long) ≡ Ok n → (n ≡ suc at + m) × (n ≤ line_limit)
   more Gap e g l f h q = f (tells at run x Gap e).1 q
   more Letter e g l f h q = h (tells at run x Letter e).1 q
   more Foreign e g l f h q = let z : ◌≡◌ {A = ℕ} 0 1 = cc in absurd (omega arith)
   more Long e g l f h q = let z : ◌≡◌ {A = ℕ} 0 1 = cc in absurd (omega arith)
 
-pub fault_length : (at run n : ℕ) (xs : List ℕ) → at ≤ line_limit → fault_from at run xs ≡ Done n → (n ≡ at + length xs) × (n ≤ line_limit)
+pub fault_length : (at run n : ℕ) (xs : List ℕ) → at ≤ line_limit → fault_from at run xs ≡ Ok n → (n ≡ at + length xs) × (n ≤ line_limit)
 unfolding fault_from
 fault_length at run n [] l e = let q : at ≡ n = cc in (omega (arith, q), omega (arith, l, q))
 fault_length at run n (x ∷ xs) l e =
@@ -37,13 +36,13 @@ fault_length at run n (x ∷ xs) l e =
     (λ k q. fault_length (suc at) (suc run) n xs (omega (arith, k)) q) e in
     (omega (arith, h.0), h.1)
 
-module _ (line : List ℕ) (f : Answer) where
+module _ (line : List ℕ) (f : Result ℕ Refusal) where
   -- with a refusal, that
-  pub answer_refused : (r : Refusal) → f ≡ line_fault line → f ≡ Refused r → Checks.Refused r ≡ line_answer line
+  pub answer_refused : (r : Refusal) → f ≡ line_fault line → f ≡ Err r → Checks.Refused r ≡ line_answer line
   unfolding line_answer
   answer_refused r e h = rw (sym e ∙ h) refl
 
-  module _ (n : ℕ) (e : f ≡ line_fault line) (h : f ≡ Done n) where
+  module _ (n : ℕ) (e : f ≡ line_fault line) (h : f ≡ Ok n) where
     pub fault_short : length line ≤ line_limit
     unfolding line_fault
     fault_short = let q = fault_length 0 0 n line (omega arith) (sym e ∙ h) in omega (arith, q.0, q.1)

@@ -1,5 +1,6 @@
 -- "6 at the 65th letter of a word or the 4,097th of the line, 1 at a foreign letter, whichever stands first, 1 if both at one place": the
 -- refusal of a line, by the place where it is given.
+use Rattle.std.specs.Prelude.{Err, Ok, Result}
 use Prim.Native.Nat.{ℕ, suc, ◌+◌, ◌≤◌, ◌<◌}
 use mathlib.Core.Path.{◌≡◌, refl, sym, ap, ◌∙◌, subst}
 use mathlib.Core.Bool.{Bool, true, false}
@@ -12,8 +13,6 @@ use lib.Seq.{append_snoc, length-take-le, split_at, take_at, get_or_at}
 use Rattle.p0_choice.specs.Choice.{pick}
 use Rattle.p0_choice.proofs.Numbers.{below_or_not}
 use Rattle.p0_refusals.specs.Limits.{letter_limit}
-use Rattle.p0_refusals.specs.declared.Answer.{Answer}
-use Rattle.p0_refusals.specs.declared.Answer.TheVariants.{Done, Refused}
 use Rattle.p0_refusals.specs.declared.Refusal.{Refusal}
 use Rattle.p0_refusals.specs.declared.Refusal.TheVariants as Refusals
 use Rattle.p1_letters.specs.Alphabet.{in_alphabet, is_separator}
@@ -179,9 +178,9 @@ RefusedAt r line i =
     ((r ≡ Refusals.Foreign) × ForeignAt line i) ⊎ ((r ≡ Refusals.Long) × LongAt line i × (ForeignAt line i → ⊥))
 
 -- what an answer says of the line: nothing is refused anywhere, or at a place and nowhere before it
-abbrev pub Says : List ℕ → Answer → Type 0
-Says line (Done n) = (n ≡ length line) × ((j : ℕ) → Fine line j)
-Says line (Refused r) = (i : ℕ) × RefusedAt r line i × ((j : ℕ) → j < i → Fine line j)
+abbrev pub Says : List ℕ → Result ℕ Refusal → Type 0
+Says line (Ok n) = (n ≡ length line) × ((j : ℕ) → Fine line j)
+Says line (Err r) = (i : ℕ) × RefusedAt r line i × ((j : ℕ) → j < i → Fine line j)
 
 clash : ◌≡◌ {A = Bool} true false → ⊥
 clash e = let z : ◌≡◌ {A = ℕ} 0 1 = cc in absurd (omega arith)
@@ -243,7 +242,7 @@ module _ (line : List ℕ) where
           → (end_run run (x ∷ []) ≡ 0 → 0 ≤ letter_limit → Fine line (length seen) → Says line (fault_from (suc at) 0 xs))
           → (end_run run (x ∷ []) ≡ suc run → suc run ≤ letter_limit → Fine line (length seen) → Says line (fault_from (suc at) (suc run) xs))
           → Says line
-          (whether t (fault_from (suc at) 0 xs) (fault_from (suc at) (suc run) xs) (Refused Refusals.Foreign) (Refused Refusals.Long))
+          (whether t (fault_from (suc at) 0 xs) (fault_from (suc at) (suc run) xs) (Err Refusals.Foreign) (Err Refusals.Long))
       turned l e Gap q gap letter =
           let h = tells at run x Gap q in
           gap (rw h.2) (omega arith) (gap_fine seen x xs c h.0 (omega (arith, l, h.1)) h.2)

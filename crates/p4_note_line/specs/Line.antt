@@ -1,10 +1,9 @@
 -- Document 02, request 2026-04: a note line, its words, what is told of it, and its refusals.
-use Rattle.std.specs.Prelude.{ℕ, suc, Bool, true, false, List, [], ◌∷◌, ltb, length}
+use Rattle.p0_refusals.specs.declared.Refusal.{Refusal}
+use Rattle.std.specs.Prelude.{ℕ, suc, Bool, true, false, List, [], ◌∷◌, ltb, length, Err, Ok, Result}
 use Rattle.p0_choice.specs.Choice.{pick}
 use Rattle.p0_refusals.specs.Limits.{letter_limit}
 use Rattle.p0_refusals.specs.Refusals.{number_of}
-use Rattle.p0_refusals.specs.declared.Answer.{Answer}
-use Rattle.p0_refusals.specs.declared.Answer.TheVariants.{Done, Refused}
 use Rattle.p0_refusals.specs.declared.Refusal.TheVariants as Refusals
 use Rattle.p1_letters.specs.Alphabet.{in_alphabet, is_separator}
 use Rattle.p4_rows.specs.Rows.{Word}
@@ -78,18 +77,18 @@ whether Foreign gap letter foreign long = foreign
 whether Long gap letter foreign long = long
 
 -- "whichever stands first": what is said of the letters that follow; the line's length where none is refused
-unfoldable pub fault_from : ℕ → ℕ → List ℕ → Answer
-fault_from at run [] = Done at
+unfoldable pub fault_from : ℕ → ℕ → List ℕ → Result ℕ Refusal
+fault_from at run [] = Ok at
 fault_from at run (x ∷ xs) =
-    whether (taking at run x) (fault_from (suc at) 0 xs) (fault_from (suc at) (suc run) xs) (Refused Refusals.Foreign) (Refused Refusals.Long)
+    whether (taking at run x) (fault_from (suc at) 0 xs) (fault_from (suc at) (suc run) xs) (Err Refusals.Foreign) (Err Refusals.Long)
 
-unfoldable pub line_fault : List ℕ → Answer
+unfoldable pub line_fault : List ℕ → Result ℕ Refusal
 line_fault line = fault_from 0 0 line
 
 -- ---- the answer
-abbrev pub unless_fault : Answer → Report → Checked
-unless_fault (Done n) counts = Checks.Counted counts
-unless_fault (Refused r) counts = Checks.Refused r
+abbrev pub unless_fault : Result ℕ Refusal → Report → Checked
+unless_fault (Ok n) counts = Checks.Counted counts
+unless_fault (Err r) counts = Checks.Refused r
 
 unfoldable pub line_answer : List ℕ → Checked
 line_answer line = unless_fault (line_fault line) (line_report line)

@@ -7,7 +7,7 @@ ghost use Rattle.p1_letters.specs.Alphabet.{is_separator};
 ghost use Rattle.p4_note_line.specs.Line.{line_limit, taking, line_fault, line_answer};
 ghost use Rattle.p4_note_line.specs.Mirror.{gap_end, word_end, tallied_from, untallied};
 
-use p0_refusals::{Answer, LETTERS, Refusal};
+use p0_refusals::{LETTERS, Refusal};
 use p1_letters as letters;
 use p4_spelling as spelling;
 
@@ -59,7 +59,7 @@ pub fn take(at: usize, run: usize, x: u32) -> Taken
 }
 
 // The line's length, or the refusal of the first letter that has one.
-fn fault_in(line: &[u32]) -> Answer
+fn fault_in(line: &[u32]) -> Result<usize, Refusal>
     ensures { result ≡ line_fault line.now }
 {
     let mut i: usize = 0;
@@ -77,11 +77,11 @@ fn fault_in(line: &[u32]) -> Answer
                 run += 1;
                 continue;
             }
-            Taken::Foreign => return Answer::Refused(Refusal::Foreign),
-            Taken::Long => return Answer::Refused(Refusal::Long),
+            Taken::Foreign => return Err(Refusal::Foreign),
+            Taken::Long => return Err(Refusal::Long),
         }
     }
-    Answer::Done(i)
+    Ok(i)
 }
 
 // Where the gap that begins at `at` ends; at `at` itself if none begins there.
@@ -172,7 +172,7 @@ pub fn check(line: &[u32]) -> Checked
 {
     let fault = fault_in(line);
     match fault {
-        Answer::Done(n) => Checked::Counted(untally(gap(line, 0, 0), n)),
-        Answer::Refused(why) => Checked::Refused(why),
+        Ok(n) => Checked::Counted(untally(gap(line, 0, 0), n)),
+        Err(why) => Checked::Refused(why),
     }
 }

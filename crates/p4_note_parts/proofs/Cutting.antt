@@ -1,4 +1,5 @@
 -- "A second form takes the line cut anywhere and answers the same as the whole line does": for every way to cut it.
+use Rattle.std.specs.Prelude.{Err}
 use Prim.Native.Nat.{ℕ}
 use mathlib.Core.Path.{◌≡◌, refl, sym, ◌∙◌}
 use mathlib.Core.Bool.{true}
@@ -6,7 +7,6 @@ use mathlib.Core.List.{List, [], ◌∷◌, ◌++◌, flatten}
 use native.Mathlib.Omega.{arith}
 use lib.ListN.{length, take}
 use Rattle.p0_refusals.specs.Answers.{refusal_of}
-use Rattle.p0_refusals.specs.declared.Answer.TheVariants.{Refused}
 use Rattle.p0_refusals.specs.declared.Refusal.{Refusal}
 use Rattle.p4_spelling.specs.Verdict.{longest_length}
 use Rattle.p4_note_line.specs.Line.{line_answer, checked_number}
@@ -87,20 +87,20 @@ pub asked_between : (n : ℕ) (parts : List (List ℕ)) → state_answer (parts_
 asked_between n parts = cut_anywhere (take n parts)
 
 -- a line that a refusal has ended stays as it is, and every part and every question has that refusal
-pub repeats : (s : Line) (r : Refusal) (xs : List ℕ) → line_sound s ≡ true → standing_answer s.standing ≡ Refused r
-    → (part_after s xs ≡ record { line = s; answer = Refused r }) × (state_answer s ≡ Checks.Refused r)
+pub repeats : (s : Line) (r : Refusal) (xs : List ℕ) → line_sound s ≡ true → standing_answer s.standing ≡ Err r
+    → (part_after s xs ≡ record { line = s; answer = Err r }) × (state_answer s ≡ Checks.Refused r)
 unfolding part_after state_answer
 repeats s r xs h e = (rw (h, ended_stays s r xs e, e), rw h (refused s.standing (told s) e))
   where
-    refused : (t : Standing) (c : Report) → standing_answer t ≡ Refused r → standing_checked t c ≡ Checks.Refused r
+    refused : (t : Standing) (c : Report) → standing_answer t ≡ Err r → standing_checked t c ≡ Checks.Refused r
     refused Going c q = let z : ◌≡◌ {A = ℕ} 0 1 = cc in absurd (omega arith)
     refused Foreign c q = cc
     refused Long c q = cc
 
 -- "after either, later calls repeat it": a refused part leaves such a line
 pub repeats_after : (s : Line) (r : Refusal) (xs ys : List ℕ) → line_sound s ≡ true → length s.letters ≡ longest_length
-    → (part_after s xs).answer ≡ Refused r
-    → (part_after (part_after s xs).line ys ≡ record { line = (part_after s xs).line; answer = Refused r })
+    → (part_after s xs).answer ≡ Err r
+    → (part_after (part_after s xs).line ys ≡ record { line = (part_after s xs).line; answer = Err r })
     × (state_answer (part_after s xs).line ≡ Checks.Refused r)
 repeats_after s r xs ys h k e =
     rw (sound_line s h xs) (repeats (part_taken s xs) r ys (part_sound s xs h k) (sym (sound_answer s h xs) ∙ e))

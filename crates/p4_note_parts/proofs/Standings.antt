@@ -1,11 +1,10 @@
 -- What a line answers, by what it stands at.
+use Rattle.std.specs.Prelude.{Err, Result}
 use Prim.Native.Nat.{ℕ}
 use mathlib.Core.Path.{◌≡◌, sym, ap, ◌∙◌}
 use mathlib.Core.Bool.{Bool, true, false, not}
 use mathlib.Core.List.{List}
 use borrow.Author.Tests.{ne_eqb, not-false}
-use Rattle.p0_refusals.specs.declared.Answer.{Answer}
-use Rattle.p0_refusals.specs.declared.Answer.TheVariants.{Refused}
 use Rattle.p0_refusals.specs.declared.Refusal.{Refusal}
 use Rattle.p4_note_line.specs.declared.Checked.{Checked}
 use Rattle.p4_note_line.specs.declared.Report.{Report}
@@ -16,7 +15,7 @@ use Rattle.p4_note_parts.specs.Parts.{counted_all, part_taken, standing_answer, 
 use Rattle.p4_note_parts.proofs.Taking.{ended_stays}
 
 -- an arm's answer is the standing's
-pub answer_at : (r : Answer) (w v : Standing) → w ≡ v → r ≡ standing_answer v → r ≡ standing_answer w
+pub answer_at : (r : Result ℕ Refusal) (w v : Standing) → w ≡ v → r ≡ standing_answer v → r ≡ standing_answer w
 answer_at r w v e h = rw e h
 
 module _ (s : Line) where
@@ -26,16 +25,16 @@ module _ (s : Line) where
 
   -- ---- a part of it is taken; after a refusal it changes nothing, and the refusal is repeated
   module _ (xs : List ℕ) (h : line_sound s ≡ true) where
-    pub part_taken_lem : (t : Line) (a : Answer) → t ≡ part_taken s xs → a ≡ standing_answer t.standing
+    pub part_taken_lem : (t : Line) (a : Result ℕ Refusal) → t ≡ part_taken s xs → a ≡ standing_answer t.standing
         → record { line = t; answer = a } ≡ part_after s xs
     unfolding part_after
     part_taken_lem t a e f = rw (h, f, e)
 
-    pub part_refused : (w : Standing) (r : Refusal) → s.standing ≡ w → standing_answer w ≡ Refused r
-        → record { line = s; answer = Refused r } ≡ part_after s xs
+    pub part_refused : (w : Standing) (r : Refusal) → s.standing ≡ w → standing_answer w ≡ Err r
+        → record { line = s; answer = Err r } ≡ part_after s xs
     part_refused w r e f =
-        let a : standing_answer s.standing ≡ Refused r = rw e f in
-        part_taken_lem s (Refused r) (sym (ended_stays s r xs a)) (sym a)
+        let a : standing_answer s.standing ≡ Err r = rw e f in
+        part_taken_lem s (Err r) (sym (ended_stays s r xs a)) (sym a)
 
   -- ---- what is told of it, by the counts n
   module _ (n : Report) (e : n ≡ counted_all s) where

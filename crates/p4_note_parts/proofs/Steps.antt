@@ -1,4 +1,5 @@
 -- A part, letter by letter: what is left of it decides.
+use Rattle.std.specs.Prelude.{Err}
 use Prim.Native.Nat.{ℕ, ◌+◌, ◌<◌, ◌≤◌}
 use mathlib.Core.Path.{◌≡◌, refl, sym, ◌∙◌}
 use mathlib.Core.Bool.{true}
@@ -7,7 +8,6 @@ use native.Mathlib.Numerals.{add-one}
 use native.Mathlib.Omega.{arith}
 use lib.ListN.{length, get_or, drop, drop_of_length-le}
 use lib.Seq.{drop-cons}
-use Rattle.p0_refusals.specs.declared.Answer.TheVariants.{Refused}
 use Rattle.p0_refusals.specs.declared.Refusal.{Refusal}
 use Rattle.p0_refusals.specs.declared.Refusal.TheVariants as Refusals
 use Rattle.p4_spelling.specs.Verdict.{longest_length}
@@ -69,7 +69,7 @@ module _ (part : List ℕ) (s₀ s : Line) (i : ℕ) (o : On part s₀ s i) wher
     on_letter u q f = on u (f ∙ sym (next ∙ rw q)) (rw f)
 
     -- one that is refused is the last
-    last : (w : Standing) (r : Refusal) → standing_answer w ≡ Refused r → taken s (get_or part i 0) ≡ ended s w → ended s w ≡ part_taken s₀ part
+    last : (w : Standing) (r : Refusal) → standing_answer w ≡ Err r → taken s (get_or part i 0) ≡ ended s w → ended s w ≡ part_taken s₀ part
     unfolding ended
     last w r a q = sym (past ∙ rw q (ended_stays (ended s w) r (drop (i + 1) part) a))
 

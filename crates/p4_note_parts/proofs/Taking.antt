@@ -1,4 +1,5 @@
 -- A letter more, by what it is; and a line that a refusal has ended.
+use Rattle.std.specs.Prelude.{Err}
 use Prim.Native.Nat.{ℕ, ◌<◌, ◌≤◌}
 use mathlib.Core.Path.{◌≡◌, refl}
 use mathlib.Core.Bool.{true, false}
@@ -6,7 +7,6 @@ use mathlib.Core.List.{List, [], ◌∷◌}
 use mathlib.Core.Logic.{◌⊎◌, inl, inr, ⊎_elim}
 use native.Mathlib.Omega.{arith}
 use Rattle.p0_refusals.specs.Limits.{letter_limit}
-use Rattle.p0_refusals.specs.declared.Answer.TheVariants.{Refused}
 use Rattle.p0_refusals.specs.declared.Refusal.{Refusal}
 use Rattle.p1_letters.specs.Alphabet.{is_separator}
 use Rattle.p4_note_line.specs.Line.{line_limit, taking, whether}
@@ -41,14 +41,14 @@ unfolding taken
 going_taken s x e = rw e
 
 -- one that a refusal has ended takes none
-pub ended_stays : (s : Line) (r : Refusal) (xs : List ℕ) → standing_answer s.standing ≡ Refused r → part_taken s xs ≡ s
+pub ended_stays : (s : Line) (r : Refusal) (xs : List ℕ) → standing_answer s.standing ≡ Err r → part_taken s xs ≡ s
 unfolding part_taken taken
 ended_stays s r [] e = refl
 ended_stays s r (x ∷ xs) e =
     rw (stays s.standing (whether (taking s.length s.run x) (gap_taken s) (letter_taken s x) (ended s Foreign) (ended s Long)) e)
     (ended_stays s r xs e)
   where
-    stays : (t : Standing) (next : Line) → standing_answer t ≡ Refused r → while_going t next s ≡ s
+    stays : (t : Standing) (next : Line) → standing_answer t ≡ Err r → while_going t next s ≡ s
     stays Going next q = let z : ◌≡◌ {A = ℕ} 0 1 = cc in absurd (omega arith)
     stays Foreign next q = refl
     stays Long next q = refl

@@ -1,4 +1,5 @@
 -- The state after a line's letters tells of the line what the whole line's answer tells.
+use Rattle.std.specs.Prelude.{Err}
 use Prim.Native.Nat.{ℕ, suc, ◌+◌, ◌-◌, ◌≤◌, ◌<◌}
 use mathlib.Core.Path.{◌≡◌, refl, ap, ◌∙◌}
 use mathlib.Core.Bool.{Bool, true, false}
@@ -11,7 +12,6 @@ use lib.Seq.{take-suc-set, append_snoc}
 use borrow.Author.Tests.{leb-true, leb-false, lt-ltb}
 use Rattle.p0_choice.specs.Choice.{pick}
 use Rattle.p0_choice.proofs.Choices.{pick_both}
-use Rattle.p0_refusals.specs.declared.Answer.TheVariants.{Refused}
 use Rattle.p0_refusals.specs.declared.Refusal.TheVariants as Refusals
 use Rattle.p1_letters.specs.Alphabet.{is_separator}
 use Rattle.p4_rows.specs.Rows.{Word}
@@ -147,7 +147,7 @@ open_line s w (x ∷ xs) o =
     answered (part_taken (whether t (gap_taken s) (letter_taken s x) (ended s Foreign) (ended s Long)) xs)
     ≡ unless_fault
     (whether t (fault_from (suc s.length) 0 xs) (fault_from (suc s.length) (suc s.run) xs)
-    (Refused Refusals.Foreign) (Refused Refusals.Long))
+    (Err Refusals.Foreign) (Err Refusals.Long))
     (foretold s w (x ∷ xs)))
     s.length s.run x
     (λ l e. rw (← gap_foretold s w x xs o e) (open_line (gap_taken s) [] xs (gap_open s)))

@@ -1,9 +1,8 @@
 -- Document 02, request 2026-04, "A second form takes the line cut anywhere and answers the same as the whole line does": what a letter
 -- does to the state, what a part does, and what the state answers.
-use Rattle.std.specs.Prelude.{ℕ, suc, ◌-◌, Bool, true, false, List, [], ◌∷◌, eqb, ltb, leb, take, set}
+use Rattle.p0_refusals.specs.declared.Refusal.{Refusal}
+use Rattle.std.specs.Prelude.{ℕ, suc, ◌-◌, Bool, true, false, List, [], ◌∷◌, eqb, ltb, leb, take, set, Err, Ok, Result}
 use Rattle.p0_choice.specs.Choice.{pick}
-use Rattle.p0_refusals.specs.declared.Answer.{Answer}
-use Rattle.p0_refusals.specs.declared.Answer.TheVariants.{Done, Refused}
 use Rattle.p0_refusals.specs.declared.Refusal.TheVariants as Refusals
 use Rattle.p4_spelling.specs.Verdict.{verdict, longest_length}
 use Rattle.p4_note_line.specs.Line.{taking, whether}
@@ -90,17 +89,17 @@ unfoldable pub part_taken : Line → List ℕ → Line
 part_taken s [] = s
 part_taken s (x ∷ xs) = part_taken (taken s x) xs
 
-abbrev pub standing_answer : Standing → Answer
-standing_answer Going = Done 0
-standing_answer Foreign = Refused Refusals.Foreign
-standing_answer Long = Refused Refusals.Long
+abbrev pub standing_answer : Standing → Result ℕ Refusal
+standing_answer Going = Ok 0
+standing_answer Foreign = Err Refusals.Foreign
+standing_answer Long = Err Refusals.Long
 
 -- "10 first, for a state that breaks the soundness", "and refusal 10 leaves the state too as it was"
 unfoldable pub part_after : Line → List ℕ → LineAfter
 part_after s xs =
     pick (line_sound s)
     (record { line = part_taken s xs; answer = standing_answer (part_taken s xs).standing })
-    (record { line = s; answer = Refused Refusals.Unsound })
+    (record { line = s; answer = Err Refusals.Unsound })
 
 -- what is told of the letters that have come; with none judged no "the line's length"
 unfoldable pub told : Line → Report

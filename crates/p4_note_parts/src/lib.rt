@@ -12,7 +12,7 @@ ghost use Rattle.p4_note_parts.specs.State.{begun, letters_fit, counts_fit, end_
 ghost use Rattle.p4_note_parts.specs.Parts.{open_accepted, counted_all, gap_taken, ended, part_taken};
 ghost use Rattle.p4_note_parts.specs.Parts.{part_after, standing_answer, state_answer};
 
-use p0_refusals::{Answer, LETTERS, Refusal};
+use p0_refusals::{LETTERS, Refusal};
 use p1_letters as letters;
 use p4_note_line as line;
 use p4_note_line::{Checked, LINE, Report, Taken};
@@ -44,7 +44,7 @@ pub struct Line {
 #[derive(Clone, Copy)]
 pub struct LineAfter {
     pub line: Line,
-    pub answer: Answer,
+    pub answer: Result<usize, Refusal>,
 }
 
 // ---- soundness
@@ -279,13 +279,13 @@ pub fn begin() -> Line
 }
 
 // What a standing answers.
-fn standing_answer(standing: Standing) -> Answer
+fn standing_answer(standing: Standing) -> Result<usize, Refusal>
     ensures { result ≡ standing_answer standing }
 {
     match standing {
-        Standing::Going => Answer::Done(0),
-        Standing::Foreign => Answer::Refused(Refusal::Foreign),
-        Standing::Long => Answer::Refused(Refusal::Long),
+        Standing::Going => Ok(0),
+        Standing::Foreign => Err(Refusal::Foreign),
+        Standing::Long => Err(Refusal::Long),
     }
 }
 
@@ -296,7 +296,7 @@ pub fn part(s: Line, letters: &[u32]) -> LineAfter
     if !sound(s) {
         return LineAfter {
             line: s,
-            answer: Answer::Refused(Refusal::Unsound),
+            answer: Err(Refusal::Unsound),
         };
     }
     let standing = s.standing;
@@ -311,11 +311,11 @@ pub fn part(s: Line, letters: &[u32]) -> LineAfter
         }
         Standing::Foreign => LineAfter {
             line: s,
-            answer: Answer::Refused(Refusal::Foreign),
+            answer: Err(Refusal::Foreign),
         },
         Standing::Long => LineAfter {
             line: s,
-            answer: Answer::Refused(Refusal::Long),
+            answer: Err(Refusal::Long),
         },
     }
 }

@@ -1,5 +1,7 @@
 -- What `word_number` and `next_word` answer, and leave in the output, is what they have to write, from what the calls in
 -- them answer.
+use Rattle.std.specs.Prelude.{Err, Ok, Result}
+use Rattle.p0_refusals.specs.declared.Refusal.{Refusal}
 use Prim.Native.Nat.{ℕ, ◌≤◌, ◌<◌}
 use mathlib.Core.Path.{◌≡◌, refl, sym, ◌∙◌}
 use mathlib.Core.Bool.{Bool, false}
@@ -9,8 +11,6 @@ use lib.ListN.{length, take, drop}
 use lib.Seq.{length-take-le}
 use Rattle.p0_refusals.specs.Limits.{letter_limit}
 use Rattle.p0_refusals.specs.declared.Refusal.TheVariants.{Foreign, Short, Long, NoWord}
-use Rattle.p0_refusals.specs.declared.Answer.{Answer}
-use Rattle.p0_refusals.specs.declared.Answer.TheVariants.{Done, Refused}
 use Rattle.p0_refusals.specs.Answers.{Outcome, writes, refuses, answer, output}
 use Rattle.p0_refusals.proofs.Answers.{refuses_answer, refuses_output, short_answer, short_output, writes_answer, writes_output}
 use Rattle.p1_letters.specs.Alphabet.{all_letters}
@@ -21,19 +21,19 @@ use Rattle.p4_spelling.specs.Verdict.{longest_length}
 use Rattle.p5_lister.specs.Meaning.{NumberMeans, word, none, Permitted, NextMeans, long, foreign, last, next}
 
 -- answer and output are those of something that means what is asked
-abbrev pub Answers : (Outcome → Type 0) → List ℕ → Answer → List ℕ → Type 0
+abbrev pub Answers : (Outcome → Type 0) → List ℕ → Result ℕ Refusal → List ℕ → Type 0
 Answers Means o r out = (u : Outcome) × Means u × (r ≡ answer u (length o)) × (out ≡ output u o)
 
 -- ---- give: the first len letters of l, with room for them or not
-module _ (o l : List ℕ) (len : ℕ) (eight : length l ≡ longest_length) (small : len ≤ longest_length) (r : Answer) (out : List ℕ) where
+module _ (o l : List ℕ) (len : ℕ) (eight : length l ≡ longest_length) (small : len ≤ longest_length) (r : Result ℕ Refusal) (out : List ℕ) where
   long_as : length (take len l) ≡ len
   long_as = length-take-le len l (omega arith)
 
-  pub no_room : length o < len → r ≡ Refused Short → out ≡ o
+  pub no_room : length o < len → r ≡ Err Short → out ≡ o
       → (r ≡ answer (writes (take len l)) (length o)) × (out ≡ output (writes (take len l)) o)
   no_room s e f = (e ∙ short_answer _ _ refl (length o) (rw long_as s), f ∙ short_output _ _ refl o (rw long_as s))
 
-  pub with_room : len ≤ length o → r ≡ Done len → out ≡ take len l ++ drop len o
+  pub with_room : len ≤ length o → r ≡ Ok len → out ≡ take len l ++ drop len o
       → (r ≡ answer (writes (take len l)) (length o)) × (out ≡ output (writes (take len l)) o)
   with_room s d e = (
     d ∙ writes_answer _ _ refl (length o) len (rw long_as s) (sym long_as),
@@ -41,10 +41,10 @@ module _ (o l : List ℕ) (len : ℕ) (eight : length l ≡ longest_length) (sma
   )
 
 -- ---- the words of P in the trie t; w is what is given
-module _ {P : Word → Type 0} {t : Trie} (l : Tries.Lists P t) (o : List ℕ) (r : Answer) (out : List ℕ) where
+module _ {P : Word → Type 0} {t : Trie} (l : Tries.Lists P t) (o : List ℕ) (r : Result ℕ Refusal) (out : List ℕ) where
   -- word_number
   module _ (n : ℕ) where
-    pub beyond : trie_size t ≤ n → r ≡ Refused NoWord → out ≡ o → Answers (NumberMeans P n) o r out
+    pub beyond : trie_size t ≤ n → r ≡ Err NoWord → out ≡ o → Answers (NumberMeans P n) o r out
     beyond h e f = (
       refuses NoWord,
       none (record { total = trie_size t; many = Tries.many l (trie_size t) refl; past = h }) refl,
@@ -63,7 +63,7 @@ module _ {P : Word → Type 0} {t : Trie} (l : Tries.Lists P t) (o : List ℕ) (
 
   -- next_word, after the permitted word v
   module _ (v : Word) (p : Permitted v) where
-    pub none_follows : trie_size t ≤ up_to t v → r ≡ Refused NoWord → out ≡ o → Answers (NextMeans P v) o r out
+    pub none_follows : trie_size t ≤ up_to t v → r ≡ Err NoWord → out ≡ o → Answers (NextMeans P v) o r out
     none_follows h e f = (
       refuses NoWord,
       last p (Tries.last l v h) refl,
@@ -77,11 +77,11 @@ module _ {P : Word → Type 0} {t : Trie} (l : Tries.Lists P t) (o : List ℕ) (
 
 -- ---- next_word, after a word that is not permitted
 module _ {P : Word → Type 0} (w : Word) (o : List ℕ) where
-  pub too_long : letter_limit < length w → (r : Answer) (out : List ℕ) → r ≡ Refused Long → out ≡ o → Answers (NextMeans P w) o r out
+  pub too_long : letter_limit < length w → (r : Result ℕ Refusal) (out : List ℕ) → r ≡ Err Long → out ≡ o → Answers (NextMeans P w) o r out
   too_long h r out e f = (refuses Long, long h refl, e ∙ refuses_answer _ _ refl (length o), f ∙ refuses_output _ _ refl o)
 
   module _ (b : Bool) (l : length w ≤ letter_limit) (e : b ≡ all_letters w) where
-    pub not_letters : b ≡ false → (r : Answer) (out : List ℕ) → r ≡ Refused Foreign → out ≡ o → Answers (NextMeans P w) o r out
+    pub not_letters : b ≡ false → (r : Result ℕ Refusal) (out : List ℕ) → r ≡ Err Foreign → out ≡ o → Answers (NextMeans P w) o r out
     not_letters n r out d f = (
       refuses Foreign,
       foreign (omega arith) (sym e ∙ n) refl,

@@ -1,4 +1,5 @@
 -- Demand 3 of any list: P is what it is to be listed. proofs/Demand3.antt has the sentence of each law.
+use Rattle.std.specs.Prelude.{Err, Ok, Result}
 use Prim.Native.Nat.{ℕ, suc, ◌≤◌, ◌<◌}
 use mathlib.Core.Path.{◌≡◌, refl, sym, ap, ◌∙◌, subst}
 use mathlib.Core.List.{List}
@@ -6,8 +7,6 @@ use native.Mathlib.Omega.{arith}
 use lib.ListN.{length}
 use Rattle.p0_refusals.specs.declared.Refusal.{Refusal}
 use Rattle.p0_refusals.specs.declared.Refusal.TheVariants.{Foreign, Short, Long, NoWord}
-use Rattle.p0_refusals.specs.declared.Answer.{Answer}
-use Rattle.p0_refusals.specs.declared.Answer.TheVariants.{Done, Refused}
 use Rattle.p0_refusals.specs.Refusals.{number_of}
 use Rattle.p0_refusals.specs.Answers.{Outcome, writes, refuses, answer, onto}
 use Rattle.p0_refusals.proofs.Answers.{refuses_answer, refuses_output, writes_answer, writes_output}
@@ -55,22 +54,22 @@ module _ (P : Word → Type 0) where
     names_every u l = let r : (n : ℕ) × Named P n u = has_name total many u l in (r.0, gives r.0 u r.1)
 
   -- ---- the next word
-  module _ (w : Word) (p : Permitted w) (o : List ℕ) (a : Answer) (out : List ℕ) (g : Answers (NextMeans P w) o a out) where
-    pub next_stands : (r : Word) → Follows P w r → length r ≤ length o → (a ≡ Done (length r)) × (out ≡ onto r o)
+  module _ (w : Word) (p : Permitted w) (o : List ℕ) (a : Result ℕ Refusal) (out : List ℕ) (g : Answers (NextMeans P w) o a out) where
+    pub next_stands : (r : Word) → Follows P w r → length r ≤ length o → (a ≡ Ok (length r)) × (out ≡ onto r o)
     next_stands r f h =
         let e : g.0 ≡ writes r = one_next_outcome w g.0 (writes r) g.1 (next r p f refl) in (
           g.2 ∙ sym (writes_answer g.0 r e (length o) (length r) h refl),
           g.3 ∙ sym (writes_output g.0 r e o (onto r o) h refl),
         )
 
-    pub refuses_if_last : Last P w → (a ≡ Refused NoWord) × (out ≡ o)
+    pub refuses_if_last : Last P w → (a ≡ Err NoWord) × (out ≡ o)
     refuses_if_last l =
         let e : g.0 ≡ refuses NoWord = one_next_outcome w g.0 (refuses NoWord) g.1 (last p l refl) in (
           g.2 ∙ sym (refuses_answer g.0 NoWord e (length o)),
           g.3 ∙ sym (refuses_output g.0 NoWord e o),
         )
 
-    pub refuses_only_if_last : ((r : Word) → Follows P w r → length r ≤ length o) → (x : Refusal) → a ≡ Refused x → Last P w
+    pub refuses_only_if_last : ((r : Word) → Follows P w r → length r ≤ length o) → (x : Refusal) → a ≡ Err x → Last P w
     refuses_only_if_last room x e = go g.1
       where
         go : NextMeans P w g.0 → Last P w
@@ -78,26 +77,26 @@ module _ (P : Word → Type 0) where
         go (foreign h b f) = absurd (never_both w p.1 b)
         go (last q l f) = l
         go (next r q f k) =
-            let d : a ≡ Done (length r) = (next_stands r f (room r f)).0 in
+            let d : a ≡ Ok (length r) = (next_stands r f (room r f)).0 in
             absurd (let z : ◌≡◌ {A = ℕ} 0 1 = cc in omega arith)
 
 -- ---- a refusal by 3 is of a word longer than the output
-module _ (u : Outcome) (o : List ℕ) (a : Answer) (g : a ≡ answer u (length o)) (e : a ≡ Refused Short) where
+module _ (u : Outcome) (o : List ℕ) (a : Result ℕ Refusal) (g : a ≡ answer u (length o)) (e : a ≡ Err Short) where
   not_word : (r : Word) → length r ≤ length o → u ≡ writes r → ⊥
   not_word r h q =
-      let d : Done (length r) ≡ answer u (length o) = writes_answer u r q (length o) (length r) h refl in
+      let d : Ok (length r) ≡ answer u (length o) = writes_answer u r q (length o) (length r) h refl in
       let z : ◌≡◌ {A = ℕ} 0 1 = cc in
       omega arith
 
   is_three : (x : Refusal) → u ≡ refuses x → number_of x ≡ 3
   is_three x q =
-      let d : Refused x ≡ answer u (length o) = refuses_answer u x q (length o) in
+      let d : Err x ≡ answer u (length o) = refuses_answer u x q (length o) in
       let k : x ≡ Short = cc in
       ap number_of k
 
 -- no listed word has more letters than `most`, and the output has room for as many
 module _ (P : Word → Type 0) (most : ℕ) (within : (u : Word) → P u → length u ≤ most)
-    (o : List ℕ) (a : Answer) (out : List ℕ) (room : most ≤ length o) (e : a ≡ Refused Short) where
+    (o : List ℕ) (a : Result ℕ Refusal) (out : List ℕ) (room : most ≤ length o) (e : a ≡ Err Short) where
   fits : (u : Word) → P u → length u ≤ length o
   fits u l = omega (arith, within u l)
 

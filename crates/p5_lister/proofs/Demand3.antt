@@ -1,6 +1,7 @@
 -- Demand 3, clause by clause, of what the contracts say: the laws of any list, of the listed words.
 -- `NumberMeans Listed n (writes u)` is that the lister gives u for the number n, and `Answers (NextMeans Listed w) o a out`
 -- what the next word after w answers and leaves in the output.
+use Rattle.std.specs.Prelude.{Err, Ok, Result}
 use Prim.Native.Nat.{ℕ, suc, ◌≤◌, ◌<◌}
 use mathlib.Core.Path.{◌≡◌}
 use mathlib.Core.List.{List}
@@ -8,8 +9,6 @@ use lib.Dec.{T}
 use lib.ListN.{length}
 use Rattle.p0_refusals.specs.declared.Refusal.{Refusal}
 use Rattle.p0_refusals.specs.declared.Refusal.TheVariants.{NoWord}
-use Rattle.p0_refusals.specs.declared.Answer.{Answer}
-use Rattle.p0_refusals.specs.declared.Answer.TheVariants.{Done, Refused}
 use Rattle.p0_refusals.specs.Answers.{writes, refuses, onto}
 use Rattle.p4_rows.specs.Rows.{Word}
 use Rattle.p4_spelling.specs.Verdict.{verdict}
@@ -52,17 +51,17 @@ pub none_between : (n : ℕ) (u v x : Word) → NumberMeans Listed n (writes u) 
 none_between = Any.none_between Listed
 
 -- ---- the next word
-module _ (w : Word) (p : Permitted w) (o : List ℕ) (a : Answer) (out : List ℕ) (g : Answers (NextMeans Listed w) o a out) where
+module _ (w : Word) (p : Permitted w) (o : List ℕ) (a : Result ℕ Refusal) (out : List ℕ) (g : Answers (NextMeans Listed w) o a out) where
   -- "the next listed word": the one that follows, and that is what stands in the output
-  pub next_stands : (r : Word) → Follows Listed w r → length r ≤ length o → (a ≡ Done (length r)) × (out ≡ onto r o)
+  pub next_stands : (r : Word) → Follows Listed w r → length r ≤ length o → (a ≡ Ok (length r)) × (out ≡ onto r o)
   next_stands = Any.next_stands Listed w p o a out g
 
   -- "it refuses .. if no listed word follows"
-  pub refuses_if_last : Last Listed w → (a ≡ Refused NoWord) × (out ≡ o)
+  pub refuses_if_last : Last Listed w → (a ≡ Err NoWord) × (out ≡ o)
   refuses_if_last = Any.refuses_if_last Listed w p o a out g
 
   -- "and given room for it, it refuses exactly if": a refusal says that none follows
-  pub refuses_only_if_last : ((r : Word) → Follows Listed w r → length r ≤ length o) → (x : Refusal) → a ≡ Refused x → Last Listed w
+  pub refuses_only_if_last : ((r : Word) → Follows Listed w r → length r ≤ length o) → (x : Refusal) → a ≡ Err x → Last Listed w
   refuses_only_if_last = Any.refuses_only_if_last Listed w p o a out g
 
 -- "A word is accepted exactly if its lower-case toneless form is listed."

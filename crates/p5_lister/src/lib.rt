@@ -15,7 +15,7 @@ ghost use Rattle.p5_listing.specs.Counts.{word_count};
 ghost use Rattle.p0_refusals.specs.Answers.{Outcome, writes, answer, output};
 ghost use Rattle.p5_lister.specs.Meaning.{NumberMeans, NextMeans};
 
-use p0_refusals::{Answer, LETTERS, Refusal};
+use p0_refusals::{LETTERS, Refusal};
 use p1_letters as letters;
 use p4_spelling::LONGEST;
 use p5_nodes as table;
@@ -206,7 +206,7 @@ fn put(letters: [u32; LONGEST], n: usize, out: &mut [u32])
 }
 
 // Gives the word, if there is room for it.
-fn give(word: Spelled, out: &mut [u32]) -> Answer
+fn give(word: Spelled, out: &mut [u32]) -> Result<usize, Refusal>
     requires { word.len ≤ longest_length }
     ensures { (result ≡ answer (writes (take word.len word.letters)) (length out.old))
         × (out.new ≡ output (writes (take word.len word.letters)) out.old) }
@@ -214,10 +214,10 @@ fn give(word: Spelled, out: &mut [u32]) -> Answer
     let len = word.len;
     let letters = word.letters;
     if out.len() < len {
-        return Answer::Refused(Refusal::Short);
+        return Err(Refusal::Short);
     }
     put(letters, len, out);
-    Answer::Done(len)
+    Ok(len)
 }
 
 // How many words are listed: the numbers below this name them.
@@ -228,12 +228,12 @@ pub fn total() -> usize
 }
 
 // The listed word of number n, from 0.
-pub fn word_number(n: usize, out: &mut [u32]) -> Answer
+pub fn word_number(n: usize, out: &mut [u32]) -> Result<usize, Refusal>
     ensures { (u : Outcome) × NumberMeans Listed n u
         × (result ≡ answer u (length out.old)) × (out.new ≡ output u out.old) }
 {
     if TOTAL <= n {
-        return Answer::Refused(Refusal::NoWord);
+        return Err(Refusal::NoWord);
     }
     let none = [0u32; LONGEST];
     let word = spell(table::ROOT, none, 0, n);
@@ -241,21 +241,21 @@ pub fn word_number(n: usize, out: &mut [u32]) -> Answer
 }
 
 // The first listed word after a permitted word, which need not be listed.
-pub fn next_word(word: &[u32], out: &mut [u32]) -> Answer
+pub fn next_word(word: &[u32], out: &mut [u32]) -> Result<usize, Refusal>
     ensures { (u : Outcome) × NextMeans Listed word.now u
         × (result ≡ answer u (length out.old)) × (out.new ≡ output u out.old) }
 {
     if LETTERS < word.len() {
-        return Answer::Refused(Refusal::Long);
+        return Err(Refusal::Long);
     }
     if !letters::all_letters(word) {
-        return Answer::Refused(Refusal::Foreign);
+        return Err(Refusal::Foreign);
     }
     let parting = turn(table::ROOT, word);
     let node = parting.node;
     let at = parting.at;
     if node == table::COUNT {
-        return Answer::Refused(Refusal::NoWord);
+        return Err(Refusal::NoWord);
     }
     let kept = keep(word, at);
     let next = spell(node, kept, at, 0);

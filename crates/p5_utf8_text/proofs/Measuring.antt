@@ -1,4 +1,5 @@
 -- Each way through `measure`: what is left of the letters decides.
+use Rattle.std.specs.Prelude.{Err, Ok}
 use Prim.Native.Nat.{ℕ, ◌+◌, ◌<◌, ◌≤◌}
 use mathlib.Core.Path.{◌≡◌, refl, ap}
 use mathlib.Core.Bool.{Bool, true, false, not}
@@ -13,7 +14,6 @@ use Rattle.p0_refusals.specs.declared.Refusal.TheVariants.{Foreign, Long}
 use Rattle.p1_letters.specs.Alphabet.{in_alphabet, all_letters}
 use Rattle.p5_utf8.specs.Rfc3629.{encode, encode_all}
 use Rattle.p0_refusals.specs.Mirror.{counted}
-use Rattle.p0_refusals.specs.declared.Answer.TheVariants.{Done, Refused}
 use Rattle.p5_utf8_text.specs.Write.{writing}
 
 module _ (xs : List ℕ) (i x : ℕ) (l : i < length xs) (p : x ≡ get_or xs i 0) where
@@ -28,20 +28,20 @@ module _ (xs : List ℕ) (i x : ℕ) (l : i < length xs) (p : x ≡ get_or xs i 
     pub letters_on : not v ≡ false → all_letters xs ≡ all_letters (drop (i + 1) xs)
     letters_on b = rw (e, rest, ← a, not-false v b) refl
 
-    pub measure_foreign : length xs ≤ letter_limit → not v ≡ true → Refused Foreign ≡ counted (writing xs)
+    pub measure_foreign : length xs ≤ letter_limit → not v ≡ true → Err Foreign ≡ counted (writing xs)
     unfolding writing counted
     measure_foreign h b = rw (le-ltb letter_limit (length xs) h, e, rest, ← a, not-true v b) refl
 
 pub bytes_start : (xs : List ℕ) → length (encode_all xs) ≡ 0 + length (encode_all (drop 0 xs))
 bytes_start xs = omega arith
 
-pub measure_long : (xs : List ℕ) → letter_limit < length xs → Refused Long ≡ counted (writing xs)
+pub measure_long : (xs : List ℕ) → letter_limit < length xs → Err Long ≡ counted (writing xs)
 unfolding writing counted
 measure_long xs h = rw (lt-ltb letter_limit (length xs) h) refl
 
 pub measure_done : (xs : List ℕ) (i n : ℕ) → all_letters xs ≡ all_letters (drop i xs)
     → length (encode_all xs) ≡ n + length (encode_all (drop i xs))
-    → length xs ≤ letter_limit → length xs ≤ i → Done n ≡ counted (writing xs)
+    → length xs ≤ letter_limit → length xs ≤ i → Ok n ≡ counted (writing xs)
 unfolding writing counted
 measure_done xs i n e f h l =
     let z : drop i xs ≡ [] = drop_of_length-le xs l in

@@ -1,4 +1,5 @@
 -- What `read` answers, by document 01's numbers and in its order; and reading undoes writing.
+use Rattle.std.specs.Prelude.{Err, Ok}
 use Prim.Native.Nat.{ℕ, ◌<◌, ◌≤◌}
 use mathlib.Core.Path.{◌≡◌, refl, ap}
 use mathlib.Core.Bool.{Bool, true, false}
@@ -13,7 +14,6 @@ use Rattle.p0_refusals.specs.Limits.{letter_limit, byte_limit}
 use Rattle.p0_refusals.specs.declared.Refusal.TheVariants.{Short, Long}
 use Rattle.p1_letters.specs.Alphabet.{in_alphabet, all_letters}
 use Rattle.p5_utf8.specs.declared.Char.TheVariants.{NoChar}
-use Rattle.p0_refusals.specs.declared.Answer.TheVariants.{Done, Refused}
 use Rattle.p5_utf8.specs.Rfc3629.{is_scalar, encode, encode_all, char_of}
 use Rattle.p0_refusals.specs.Answers.{writes, refuses, refusal_of, answer}
 use Rattle.p0_refusals.proofs.Room.{Fits, enough}
@@ -43,7 +43,7 @@ module _ (xs : List ℕ) (m : ℕ) (a : all_letters xs ≡ true) where
     unfolding reading answer
     short l = rw (le-ltb byte_limit (length (encode_all xs)) h, read_written xs a, lt-ltb m (length xs) l) refl
 
-    pub done : length xs ≤ m → answer (reading (encode_all xs)) m ≡ Done (length xs)
+    pub done : length xs ≤ m → answer (reading (encode_all xs)) m ≡ Ok (length xs)
     unfolding reading answer
     done l = rw (le-ltb byte_limit (length (encode_all xs)) h, read_written xs a, le-ltb m (length xs) l) refl
 
@@ -56,7 +56,7 @@ reading_fits s = go (ltb byte_limit (length s)) refl
     go true p = λ e. let z : ◌≡◌ {A = ℕ} 0 1 = cc in omega arith
     go false p = letters_fit_lem s byte_limit (omega (arith, ltb-false byte_limit (length s) p))
 
-pub read_room_lem : (s : List ℕ) (n : ℕ) → byte_limit ≤ n → answer (reading s) n ≡ Refused Short → ⊥
+pub read_room_lem : (s : List ℕ) (n : ℕ) → byte_limit ≤ n → answer (reading s) n ≡ Err Short → ⊥
 read_room_lem s n h = enough (reading s) byte_limit n (reading_fits s) h
 
 -- ---- reading and writing

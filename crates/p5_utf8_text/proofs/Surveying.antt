@@ -1,4 +1,6 @@
 -- Each way through `survey`: k letters are read, and what the bytes from i on are decides the rest.
+use Rattle.std.specs.Prelude.{Err, Ok, Result}
+use Rattle.p0_refusals.specs.declared.Refusal.{Refusal}
 use Prim.Native.Nat.{ℕ, ◌+◌, ◌*◌, ◌^◌, ◌<◌, ◌≤◌}
 use mathlib.Core.Path.{◌≡◌, refl, sym, ap, ◌∙◌}
 use mathlib.Core.Bool.{Bool, true, false, not}
@@ -14,8 +16,6 @@ use Rattle.p1_letters.specs.Alphabet.{in_alphabet}
 use Rattle.p1_letters.proofs.Alphabet.{alphabet_ascii}
 use Rattle.p5_utf8.specs.declared.Char.{Char}
 use Rattle.p5_utf8.specs.declared.Char.TheVariants.{NoChar, Scalar}
-use Rattle.p0_refusals.specs.declared.Answer.{Answer}
-use Rattle.p0_refusals.specs.declared.Answer.TheVariants.{Done, Refused}
 use Rattle.p5_utf8.specs.Rfc3629.{char_at}
 use Rattle.p0_refusals.specs.Answers.{Outcome, writes, refuses}
 use Rattle.p0_refusals.specs.Mirror.{counted}
@@ -25,21 +25,21 @@ use Rattle.p5_utf8_text.specs.Read.{before, letters, reading}
 use Rattle.p5_utf8_text.proofs.Letters.{at_end, at_malformed, at_char}
 
 -- k letters, and then an outcome
-unfoldable pub counted_from : ℕ → Outcome → Answer
-counted_from k (writes xs) = Done (k + length xs)
-counted_from k (refuses r) = Refused r
+unfoldable pub counted_from : ℕ → Outcome → Result ℕ Refusal
+counted_from k (writes xs) = Ok (k + length xs)
+counted_from k (refuses r) = Err r
 
 from_start : (u : Outcome) → counted u ≡ counted_from 0 u
 unfolding counted counted_from
-from_start (writes xs) = let h : length xs ≡ 0 + length xs = omega arith in ap Done h
+from_start (writes xs) = let h : length xs ≡ 0 + length xs = omega arith in ap Ok h
 from_start (refuses r) = refl
 
 from_before : (k x : ℕ) (u : Outcome) → counted_from k (before x u) ≡ counted_from (k + 1) u
 unfolding counted_from before
-from_before k x (writes xs) = let h : k + length (x ∷ xs) ≡ k + 1 + length xs = omega arith in ap Done h
+from_before k x (writes xs) = let h : k + length (x ∷ xs) ≡ k + 1 + length xs = omega arith in ap Ok h
 from_before k x (refuses r) = refl
 
-pub survey_long : (s : List ℕ) → byte_limit < length s → Refused Long ≡ counted (reading s)
+pub survey_long : (s : List ℕ) → byte_limit < length s → Err Long ≡ counted (reading s)
 unfolding reading counted
 survey_long s h = rw (lt-ltb byte_limit (length s) h) refl
 
@@ -48,17 +48,17 @@ unfolding reading
 survey_start s h = rw (le-ltb byte_limit (length s) h) (from_start (letters s))
 
 module _ (s : List ℕ) (k i : ℕ) (e : counted (reading s) ≡ counted_from k (letters (drop i s))) where
-  pub survey_done : length s ≤ i → Done k ≡ counted (reading s)
+  pub survey_done : length s ≤ i → Ok k ≡ counted (reading s)
   unfolding counted_from
-  survey_done l = let h : k ≡ k + 0 = omega arith in rw (e, at_end s i l) (ap Done h)
+  survey_done l = let h : k ≡ k + 0 = omega arith in rw (e, at_end s i l) (ap Ok h)
 
   module _ (c : Char) (l : i < length s) (p : c ≡ char_at s i) where
-    pub survey_malformed : c ≡ NoChar → Refused Malformed ≡ counted (reading s)
+    pub survey_malformed : c ≡ NoChar → Err Malformed ≡ counted (reading s)
     unfolding counted_from
     survey_malformed q = rw (e, at_malformed s i l (sym p ∙ q)) refl
 
     module _ (x w : ℕ) (v : Bool) (q : c ≡ Scalar x w) (a : v ≡ in_alphabet x) where
-      pub survey_foreign : not v ≡ true → Refused Foreign ≡ counted (reading s)
+      pub survey_foreign : not v ≡ true → Err Foreign ≡ counted (reading s)
       unfolding counted_from
       survey_foreign b = rw (e, at_char s i x w (sym p ∙ q), ← a, not-true v b) refl
 

@@ -1,4 +1,6 @@
 -- What `write` writes is the bytes of the letters, and there is no second answer.
+use Rattle.std.specs.Prelude.{Err, Ok, Result}
+use Rattle.p0_refusals.specs.declared.Refusal.{Refusal}
 use Prim.Native.Nat.{ℕ, ◌<◌, ◌≤◌}
 use mathlib.Core.Path.{◌≡◌, refl, sym, ap, ◌∙◌}
 use mathlib.Core.Bool.{Bool, true, false}
@@ -14,8 +16,6 @@ use Rattle.p1_letters.specs.Alphabet.{all_letters}
 use Rattle.p5_utf8.specs.Rfc3629.{encode_all}
 use Rattle.p0_refusals.specs.Answers.{writes, refuses, refusal_of, content, answer, onto, output}
 use Rattle.p0_refusals.specs.Mirror.{counted}
-use Rattle.p0_refusals.specs.declared.Answer.{Answer}
-use Rattle.p0_refusals.specs.declared.Answer.TheVariants.{Done, Refused}
 use Rattle.p0_refusals.proofs.Answers.{counted_done, output_done}
 use Rattle.p0_refusals.proofs.Room.{Fits, enough}
 use Rattle.p5_utf8_text.specs.Write.{write_room, writing}
@@ -33,7 +33,7 @@ written_exactly xs bs e = go (ltb letter_limit (length xs)) (all_letters xs) ref
     go false true p q = (ltb-false letter_limit (length xs) p, refl, cc)
     go false false p q = let z : ◌≡◌ {A = ℕ} 0 1 = cc in absurd (omega arith)
 
-module _ (xs : List ℕ) (v : Answer) (n : ℕ) (e : v ≡ counted (writing xs)) (q : v ≡ Done n) where
+module _ (xs : List ℕ) (v : Result ℕ Refusal) (n : ℕ) (e : v ≡ counted (writing xs)) (q : v ≡ Ok n) where
   is_written : (n ≡ length (content (writing xs))) × (all_letters xs ≡ true) × (content (writing xs) ≡ encode_all xs)
   is_written = let k = counted_done (writing xs) n (sym e ∙ q) in let w = written_exactly xs (content (writing xs)) k.0 in
       (k.1, w.1, w.2)
@@ -61,7 +61,7 @@ module _ (xs : List ℕ) (m : ℕ) (h : length xs ≤ letter_limit) where
   unfolding writing answer
   short a l = rw (le-ltb letter_limit (length xs) h, a, lt-ltb m (length (encode_all xs)) l) refl
 
-  pub done : all_letters xs ≡ true → length (encode_all xs) ≤ m → answer (writing xs) m ≡ Done (length (encode_all xs))
+  pub done : all_letters xs ≡ true → length (encode_all xs) ≤ m → answer (writing xs) m ≡ Ok (length (encode_all xs))
   unfolding writing answer
   done a l = rw (le-ltb letter_limit (length xs) h, a, le-ltb m (length (encode_all xs)) l) refl
 
@@ -76,5 +76,5 @@ writing_fits xs = go (ltb letter_limit (length xs)) (all_letters xs) refl refl
     go false true p q = omega (arith, few_bytes xs q, ltb-false letter_limit (length xs) p)
     go false false p q = λ e. let z : ◌≡◌ {A = ℕ} 0 1 = cc in omega arith
 
-pub write_room_lem : (xs : List ℕ) (n : ℕ) → write_room ≤ n → answer (writing xs) n ≡ Refused Short → ⊥
+pub write_room_lem : (xs : List ℕ) (n : ℕ) → write_room ≤ n → answer (writing xs) n ≡ Err Short → ⊥
 write_room_lem xs n h = enough (writing xs) write_room n (writing_fits xs) h

@@ -5,7 +5,7 @@ ghost use Rattle.p0_refusals.specs.Mirror.{counted};
 ghost use Rattle.p5_utf8.specs.Rfc3629.{bits2, bits3};
 ghost use Rattle.p5_utf8_text.specs.Read.{reading};
 
-use p0_refusals::{Answer, BYTES, Refusal};
+use p0_refusals::{BYTES, Refusal};
 use p1_letters as letters;
 use p5_utf8 as utf8;
 use p5_utf8::Char;
@@ -18,11 +18,11 @@ fn wide(a: u8) -> u32
 }
 
 // How many letters the bytes are, or why they are refused. A byte of ASCII is a letter by itself, and costs no call.
-fn survey(bytes: &[u8]) -> Answer
+fn survey(bytes: &[u8]) -> Result<usize, Refusal>
     ensures { result ≡ counted (reading bytes.now) }
 {
     if BYTES < bytes.len() {
-        return Answer::Refused(Refusal::Long);
+        return Err(Refusal::Long);
     }
     let mut i: usize = 0;
     let mut k: usize = 0;
@@ -35,17 +35,17 @@ fn survey(bytes: &[u8]) -> Answer
         }
         let found = utf8::char_at(bytes, i);
         match found {
-            Char::NoChar => return Answer::Refused(Refusal::Malformed),
+            Char::NoChar => return Err(Refusal::Malformed),
             Char::Scalar(x, width) => {
                 if !letters::in_alphabet(x) {
-                    return Answer::Refused(Refusal::Foreign);
+                    return Err(Refusal::Foreign);
                 }
                 i += width;
                 k += 1;
             }
         }
     }
-    Answer::Done(k)
+    Ok(k)
 }
 
 // A letter's two bytes read back.
@@ -93,19 +93,19 @@ fn spread(bytes: &[u8], out: &mut [u32])
 
 // Reads at most BYTES bytes as letters, written from the start of `out`. Refusals: 6, then 8 or 1 for the first faulty
 // character, last 3; `out` then stays as it was.
-pub fn read(bytes: &[u8], out: &mut [u32]) -> Answer
+pub fn read(bytes: &[u8], out: &mut [u32]) -> Result<usize, Refusal>
     ensures value { result ≡ answer (reading bytes.now) (length out.old) }
     ensures out_after { out.new ≡ output (reading bytes.now) out.old }
 {
     let surveyed = survey(bytes);
     match surveyed {
-        Answer::Refused(refusal) => Answer::Refused(refusal),
-        Answer::Done(n) => {
+        Err(refusal) => Err(refusal),
+        Ok(n) => {
             if out.len() < n {
-                return Answer::Refused(Refusal::Short);
+                return Err(Refusal::Short);
             }
             spread(bytes, out);
-            Answer::Done(n)
+            Ok(n)
         }
     }
 }

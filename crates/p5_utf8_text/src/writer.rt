@@ -6,7 +6,7 @@ ghost use Rattle.p0_refusals.specs.Mirror.{counted};
 ghost use Rattle.p5_utf8.specs.Rfc3629.{encode_all};
 ghost use Rattle.p5_utf8_text.specs.Write.{writing};
 
-use p0_refusals::{Answer, LETTERS, Refusal};
+use p0_refusals::{LETTERS, Refusal};
 use p1_letters as letters;
 use p5_utf8 as utf8;
 
@@ -14,23 +14,23 @@ use p5_utf8 as utf8;
 pub const WIDTH: usize = 3;
 
 // How many bytes the letters have, or why they are refused.
-fn measure(word: &[u32]) -> Answer
+fn measure(word: &[u32]) -> Result<usize, Refusal>
     ensures { result ≡ counted (writing word.now) }
 {
     if LETTERS < word.len() {
-        return Answer::Refused(Refusal::Long);
+        return Err(Refusal::Long);
     }
     let mut i: usize = 0;
     let mut n: usize = 0;
     while i < word.len() {
         let x = word[i];
         if !letters::in_alphabet(x) {
-            return Answer::Refused(Refusal::Foreign);
+            return Err(Refusal::Foreign);
         }
         n += utf8::width(x);
         i += 1;
     }
-    Answer::Done(n)
+    Ok(n)
 }
 
 // Writes the letters' bytes from the start of `out`.
@@ -48,19 +48,19 @@ fn lay(word: &[u32], out: &mut [u8])
 }
 
 // Writes at most LETTERS letters as UTF-8, from the start of `out`. Refusals: 6, then 1, last 3; `out` then stays as it was.
-pub fn write(word: &[u32], out: &mut [u8]) -> Answer
+pub fn write(word: &[u32], out: &mut [u8]) -> Result<usize, Refusal>
     ensures value { result ≡ answer (writing word.now) (length out.old) }
     ensures out_after { out.new ≡ output (writing word.now) out.old }
 {
     let measured = measure(word);
     match measured {
-        Answer::Refused(refusal) => Answer::Refused(refusal),
-        Answer::Done(n) => {
+        Err(refusal) => Err(refusal),
+        Ok(n) => {
             if out.len() < n {
-                return Answer::Refused(Refusal::Short);
+                return Err(Refusal::Short);
             }
             lay(word, out);
-            Answer::Done(n)
+            Ok(n)
         }
     }
 }

@@ -1,4 +1,5 @@
 -- A removal takes back what a key appended: after a key that makes the cells one more it gives the composition back.
+use Rattle.std.specs.Prelude.{Ok}
 use Prim.Native.Nat.{ℕ, suc}
 use mathlib.Core.Path.{◌≡◌, refl, ap, ◌∙◌}
 use mathlib.Core.Bool.{true}
@@ -6,7 +7,6 @@ use mathlib.Core.List.{List, [], ◌∷◌, ◌++◌}
 use native.Mathlib.Omega.{arith}
 use lib.ListN.{length, set, length-append, length-set}
 use Rattle.p0_refusals.specs.Answers.{answer}
-use Rattle.p0_refusals.specs.declared.Answer.TheVariants.{Done}
 use Rattle.p3_cells.specs.Cells.{is_sound, used, holding}
 use Rattle.p3_cells.specs.declared.Cell.{Cell}
 use Rattle.p3_cells.specs.declared.Composition.{Composition}
@@ -33,7 +33,7 @@ module _ (c : Composition) (s : is_sound c ≡ true) (key : ℕ) where
       one_more (used c) (key_frame c.settings (used c) key) (omega (arith, count_held c.settings (next_cells c key), used_length c s))
 
   -- a key that no step fits, and that is not refused, makes the cells one more
-  pub key_appends : (n k : ℕ) → c.settings.mode ≡ Vietnamese → next_cells c key ≡ appended (used c) key → (keyed c key n).answer ≡ Done k
+  pub key_appends : (n k : ℕ) → c.settings.mode ≡ Vietnamese → next_cells c key ≡ appended (used c) key → (keyed c key n).answer ≡ Ok k
       → (keyed c key n).comp.count ≡ suc c.count
   unfolding keyed key_next appended
   key_appends n k m a e =
@@ -43,7 +43,7 @@ module _ (c : Composition) (s : is_sound c ≡ true) (key : ℕ) where
       ∙ rw length-append (omega (arith, used_length c s))
 
   abbrev Back : ℕ → ℕ → Composition → Type 0
-  Back m j d = d.count ≡ suc c.count → (removed d m).answer ≡ Done j → (removed d m).comp ≡ c
+  Back m j d = d.count ≡ suc c.count → (removed d m).answer ≡ Ok j → (removed d m).comp ≡ c
 
   -- no cell more: refused, or in English mode
   same : (m j : ℕ) → Back m j c
@@ -52,7 +52,7 @@ module _ (c : Composition) (s : is_sound c ≡ true) (key : ℕ) where
   held : (m j : ℕ) → Back m j (holding c (next_cells c key))
   held m j e f = let a = appended_one e in removal_back c s a.0 (holding c (next_cells c key)) (ap (holding c) a.1) m j f
 
-  pub key_back : (n m j : ℕ) → (keyed c key n).comp.count ≡ suc c.count → (removed (keyed c key n).comp m).answer ≡ Done j
+  pub key_back : (n m j : ℕ) → (keyed c key n).comp.count ≡ suc c.count → (removed (keyed c key n).comp m).answer ≡ Ok j
       → (removed (keyed c key n).comp m).comp ≡ c
   unfolding keyed key_next
   key_back n m j = leaving_keeps (Back m j) (answer (key_outcome c key) n) c (key_next c key) (same m j) (λ k e. go c.settings.mode)

@@ -1,4 +1,5 @@
 -- Each way through a call on bytes.
+use Rattle.std.specs.Prelude.{Err, Ok}
 use Prim.Native.Nat.{ℕ, ◌-◌, ◌<◌, ◌≤◌}
 use mathlib.Core.Path.{◌≡◌, refl, sym, ap, ◌∙◌}
 use mathlib.Core.Bool.{Bool, true, false, not}
@@ -8,7 +9,6 @@ use lib.ListN.{length, take, drop, set, length-set, drop_of_length-le}
 use borrow.Author.Tests.{not-true, not-false, eq-eqb, ne_eqb, le-leb, lt-leb}
 use Rattle.p0_choice.specs.Choice.{pick}
 use Rattle.p0_refusals.specs.Answers.{Outcome}
-use Rattle.p0_refusals.specs.declared.Answer.TheVariants.{Done, Refused}
 use Rattle.p0_refusals.specs.declared.Refusal.TheVariants.{Unsound}
 use Rattle.p3_calls.specs.Settings.{created}
 use Rattle.p3_cells.specs.declared.After.{After}
@@ -28,7 +28,7 @@ pub ok_size : (b : List ℕ) (v : Bool) → v ≡ bytes_sound b → not v ≡ fa
 ok_size b v e t = sound_size b (ok_sound b v e t)
 
 module _ (b : List ℕ) (s : After) (v : Bool) (e : v ≡ bytes_sound b) where
-  pub unsound_answer : not v ≡ true → Refused Unsound ≡ answer_on b s
+  pub unsound_answer : not v ≡ true → Err Unsound ≡ answer_on b s
   unfolding answer_on
   unsound_answer t = rw (← e, not-true v t) refl
 
@@ -44,17 +44,17 @@ module _ (b out : List ℕ) (w : Outcome) (v : Bool) (e : v ≡ bytes_sound b) w
 
 -- ---- the text
 module _ (b : List ℕ) (n : ℕ) (v : Bool) (e : v ≡ bytes_sound b) where
-  pub unsound_text : not v ≡ true → Refused Unsound ≡ text_on b n
+  pub unsound_text : not v ≡ true → Err Unsound ≡ text_on b n
   unfolding text_on
   unsound_text t = rw (← e, not-true v t) refl
 
 -- ---- the settings by their numbers
-both_refuse : (s : Bool) → Refused Unsound ≡ pick s (Refused Unsound) (Refused Unsound)
+both_refuse : (s : Bool) → Err Unsound ≡ pick s (Err Unsound) (Err Unsound)
 both_refuse true = refl
 both_refuse false = refl
 
 module _ (b : List ℕ) (n : ℕ) (l : 1 < n) where
-  or_refused : (s : After) → Refused Unsound ≡ answer_on b (or_unsound b n s)
+  or_refused : (s : After) → Err Unsound ≡ answer_on b (or_unsound b n s)
   unfolding answer_on or_unsound
   or_refused s = rw (lt-leb n 1 l) (both_refuse (bytes_sound b))
 
@@ -62,7 +62,7 @@ module _ (b : List ℕ) (n : ℕ) (l : 1 < n) where
   unfolding bytes_on
   or_kept s = rw (← or_refused s) refl
 
-  pub no_method : Refused Unsound ≡ answer_on b (method_on b n)
+  pub no_method : Err Unsound ≡ answer_on b (method_on b n)
   unfolding method_on
   no_method = or_refused _
 
@@ -70,7 +70,7 @@ module _ (b : List ℕ) (n : ℕ) (l : 1 < n) where
   unfolding method_on
   no_method_bytes = or_kept _
 
-  pub no_mode : Refused Unsound ≡ answer_on b (mode_on b n)
+  pub no_mode : Err Unsound ≡ answer_on b (mode_on b n)
   unfolding mode_on
   no_mode = or_refused _
 
@@ -78,7 +78,7 @@ module _ (b : List ℕ) (n : ℕ) (l : 1 < n) where
   unfolding mode_on
   no_mode_bytes = or_kept _
 
-  pub no_capitals : Refused Unsound ≡ answer_on b (capitals_on b n)
+  pub no_capitals : Err Unsound ≡ answer_on b (capitals_on b n)
   unfolding capitals_on
   no_capitals = or_refused _
 
@@ -92,7 +92,7 @@ one (x ∷ r) h = refl
 one [] h = absurd (omega arith)
 
 module _ (b : List ℕ) (n : ℕ) where
-  pub new_size : (length b ≡ size → ⊥) → Refused Unsound ≡ new_on b n
+  pub new_size : (length b ≡ size → ⊥) → Err Unsound ≡ new_on b n
   unfolding new_on
   new_size h = rw (ne_eqb (length b) size h) refl
 
@@ -101,7 +101,7 @@ module _ (b : List ℕ) (n : ℕ) where
   new_size_bytes h = rw (← new_size h) refl
 
   module _ (z : length b ≡ size) where
-    pub new_method : 1 < n → Refused Unsound ≡ new_on b n
+    pub new_method : 1 < n → Err Unsound ≡ new_on b n
     unfolding new_on
     new_method h = rw (eq-eqb (length b) size z, lt-leb n 1 h) refl
 
@@ -109,7 +109,7 @@ module _ (b : List ℕ) (n : ℕ) where
     unfolding new_bytes
     new_method_bytes h = rw (← new_method h) refl
 
-    pub new_done : n ≤ 1 → Done 0 ≡ new_on b n
+    pub new_done : n ≤ 1 → Ok 0 ≡ new_on b n
     unfolding new_on
     new_done h = rw (eq-eqb (length b) size z, le-leb n 1 h) refl
 

@@ -1,4 +1,5 @@
 -- Each way through a call that works on the bytes where they lie.
+use Rattle.std.specs.Prelude.{Err, Ok, Result}
 use Prim.Native.Nat.{ℕ, ◌+◌, ◌-◌, ◌<◌, ◌≤◌}
 use mathlib.Core.Path.{◌≡◌, refl, sym, ap, ◌∙◌}
 use mathlib.Core.Bool.{Bool, true, false, not}
@@ -10,8 +11,6 @@ use borrow.Author.Tests.{eq-eqb, ne_eqb, le-leb}
 use mir.Syntax.{w8}
 use mir.Val.{Fits}
 use Rattle.p0_refusals.specs.Answers.{Outcome, output}
-use Rattle.p0_refusals.specs.declared.Answer.{Answer}
-use Rattle.p0_refusals.specs.declared.Answer.TheVariants.{Done, Refused}
 use Rattle.p0_refusals.specs.declared.Refusal.{Refusal}
 use Rattle.p0_refusals.specs.declared.Refusal.TheVariants.{Foreign, Full, Short, Empty}
 use Rattle.p1_letters.specs.Alphabet.{in_alphabet}
@@ -82,7 +81,7 @@ set_ok b i x v e t = set_size b i x (sound_size b (ok_sound b v e t))
 
 -- ---- what is told and left, where k is what the call by value leaves
 module _ (b : List ℕ) (s : bytes_sound b ≡ true) (k : After) where
-  pub told : (d : Composition) (a : Answer) → record { comp = d; answer = a } ≡ k → a ≡ answer_on b k
+  pub told : (d : Composition) (a : Result ℕ Refusal) → record { comp = d; answer = a } ≡ k → a ≡ answer_on b k
   unfolding answer_on
   told d a p = rw (s, ← p) refl
 
@@ -90,7 +89,7 @@ module _ (b : List ℕ) (s : bytes_sound b ≡ true) (k : After) where
   unfolding bytes_on answer_on
   stays r p = rw (s, ← p) refl
 
-  pub becomes : (d : Composition) (n : ℕ) (new : List ℕ) → record { comp = d; answer = Done n } ≡ k → new ≡ bytes_of d → new ≡ bytes_on b k
+  pub becomes : (d : Composition) (n : ℕ) (new : List ℕ) → record { comp = d; answer = Ok n } ≡ k → new ≡ bytes_of d → new ≡ bytes_on b k
   unfolding bytes_on answer_on
   becomes d n new p h = rw (s, ← p) h
 
@@ -117,12 +116,12 @@ module _ (b : List ℕ) (v : Bool) (e : v ≡ bytes_sound b) (t : not v ≡ fals
   whole = sym (sound_composition b s)
 
   -- ---- the reset
-  reset_leaves : record { comp = composed (composition_of b).settings []; answer = Done 0 } ≡ reset_on b
+  reset_leaves : record { comp = composed (composition_of b).settings []; answer = Ok 0 } ≡ reset_on b
   unfolding reset_on reset_to
   reset_leaves = leaving_nothing _ (composition_of b) _ 0 _ (set_done (composition_of b) true whole refl) refl
 
-  pub reset_told : Done 0 ≡ answer_on b (reset_on b)
-  reset_told = told b s (reset_on b) _ (Done 0) reset_leaves
+  pub reset_told : Ok 0 ≡ answer_on b (reset_on b)
+  reset_told = told b s (reset_on b) _ (Ok 0) reset_leaves
 
   -- no cells, where one byte of the head was stored before
   emptied : ((k : ℕ) → Fits w8 (byte_at b k)) → (i n : ℕ) (d : Composition) → set (bytes_of (composition_of b)) i n ≡ bytes_of d
@@ -135,12 +134,12 @@ module _ (b : List ℕ) (v : Bool) (e : v ≡ bytes_sound b) (t : not v ≡ fals
 
   -- ---- the method
   module _ (n : ℕ) (l : n ≤ 1) where
-    method_leaves : record { comp = composed (with_method (composition_of b).settings (method_of n)) []; answer = Done 0 } ≡ method_on b n
+    method_leaves : record { comp = composed (with_method (composition_of b).settings (method_of n)) []; answer = Ok 0 } ≡ method_on b n
     unfolding method_on or_unsound method_set
     method_leaves = rw (le-leb n 1 l) (leaving_nothing _ (composition_of b) _ 0 _ (set_done (composition_of b) true whole refl) refl)
 
-    pub method_told : Done 0 ≡ answer_on b (method_on b n)
-    method_told = told b s (method_on b n) _ (Done 0) method_leaves
+    pub method_told : Ok 0 ≡ answer_on b (method_on b n)
+    method_told = told b s (method_on b n) _ (Ok 0) method_leaves
 
     pub method_cleared : ((k : ℕ) → Fits w8 (byte_at b k)) → (new : List ℕ) → new ≡ cleared (set b 0 n) → new ≡ bytes_on b (method_on b n)
     method_cleared f new h = becomes b s (method_on b n) _ 0 new method_leaves
@@ -148,7 +147,7 @@ module _ (b : List ℕ) (v : Bool) (e : v ≡ bytes_sound b) (t : not v ≡ fals
 
     -- ---- the mode
     mode_leaves : (d : Composition) → ((on : Bool) → eqb n 0 ≡ on → d ≡ turned (composition_of b) on)
-        → record { comp = d; answer = Done 0 } ≡ mode_on b n
+        → record { comp = d; answer = Ok 0 } ≡ mode_on b n
     unfolding mode_on or_unsound enabled_set
     mode_leaves d f =
         rw (le-leb n 1 l) (leaving_nothing _ (composition_of b) _ 0 d (set_done (composition_of b) true whole refl) (f (eqb n 0) refl))
@@ -156,24 +155,24 @@ module _ (b : List ℕ) (v : Bool) (e : v ≡ bytes_sound b) (t : not v ≡ fals
     module _ (z : n ≡ 0) where
       vietnamese_leaves : record {
         comp = with_settings (composition_of b) (with_mode (composition_of b).settings Vietnamese);
-        answer = Done 0;
+        answer = Ok 0;
       }
           ≡ mode_on b n
       vietnamese_leaves = mode_leaves _ (λ on q. turned_on_lem (composition_of b) true whole on refl (rw (sym q ∙ eq-eqb n 0 z) refl))
 
-      pub mode_kept_told : Done 0 ≡ answer_on b (mode_on b n)
-      mode_kept_told = told b s (mode_on b n) _ (Done 0) vietnamese_leaves
+      pub mode_kept_told : Ok 0 ≡ answer_on b (mode_on b n)
+      mode_kept_told = told b s (mode_on b n) _ (Ok 0) vietnamese_leaves
 
       pub mode_kept_bytes : ((k : ℕ) → Fits w8 (byte_at b k)) → set b 1 n ≡ bytes_on b (mode_on b n)
       mode_kept_bytes f = becomes b s (mode_on b n) _ 0 (set b 1 n) vietnamese_leaves
           (ap (λ (x : List ℕ). set x 1 n) (sym (lent b f s)) ∙ mode_stored (composition_of b) Vietnamese n z)
 
     module _ (z : n ≡ 0 → ⊥) where
-      english_leaves : record { comp = composed (with_mode (composition_of b).settings English) []; answer = Done 0 } ≡ mode_on b n
+      english_leaves : record { comp = composed (with_mode (composition_of b).settings English) []; answer = Ok 0 } ≡ mode_on b n
       english_leaves = mode_leaves _ (λ on q. turned_off (composition_of b) _ on (rw (sym q ∙ ne_eqb n 0 z) refl) refl)
 
-      pub mode_told : Done 0 ≡ answer_on b (mode_on b n)
-      mode_told = told b s (mode_on b n) _ (Done 0) english_leaves
+      pub mode_told : Ok 0 ≡ answer_on b (mode_on b n)
+      mode_told = told b s (mode_on b n) _ (Ok 0) english_leaves
 
       pub mode_cleared : ((k : ℕ) → Fits w8 (byte_at b k)) → (new : List ℕ) → new ≡ cleared (set b 1 n) → new ≡ bytes_on b (mode_on b n)
       mode_cleared f new h = becomes b s (mode_on b n) _ 0 new english_leaves
@@ -182,7 +181,7 @@ module _ (b : List ℕ) (v : Bool) (e : v ≡ bytes_sound b) (t : not v ≡ fals
     -- ---- capitals
     capitals_leaves : record {
       comp = with_settings (composition_of b) (with_capitals (composition_of b).settings (eqb n 1));
-      answer = Done 0;
+      answer = Ok 0;
     }
         ≡ capitals_on b n
     unfolding capitals_on or_unsound capitals_set
@@ -191,8 +190,8 @@ module _ (b : List ℕ) (v : Bool) (e : v ≡ bytes_sound b) (t : not v ≡ fals
         (leaving_nothing _ (composition_of b) _ 0 _ (set_done (composition_of b) true whole refl)
         (capitals_kept (composition_of b) true whole (eqb n 1) refl))
 
-    pub capitals_told : Done 0 ≡ answer_on b (capitals_on b n)
-    capitals_told = told b s (capitals_on b n) _ (Done 0) capitals_leaves
+    pub capitals_told : Ok 0 ≡ answer_on b (capitals_on b n)
+    capitals_told = told b s (capitals_on b n) _ (Ok 0) capitals_leaves
 
     pub capitals_bytes : ((k : ℕ) → Fits w8 (byte_at b k)) → set b 3 n ≡ bytes_on b (capitals_on b n)
     capitals_bytes f = becomes b s (capitals_on b n) _ 0 (set b 3 n) capitals_leaves
@@ -205,8 +204,8 @@ module _ (b : List ℕ) (v : Bool) (e : v ≡ bytes_sound b) (t : not v ≡ fals
       unfolding literal_on literal
       foreign_leaves = leaving_refused _ (composition_of b) _ 0 Foreign _ (literal_foreign (composition_of b) ch true whole u refl a w) refl
 
-      pub foreign_told : Refused Foreign ≡ answer_on b (literal_on b ch)
-      foreign_told = told b s (literal_on b ch) _ (Refused Foreign) foreign_leaves
+      pub foreign_told : Err Foreign ≡ answer_on b (literal_on b ch)
+      foreign_told = told b s (literal_on b ch) _ (Err Foreign) foreign_leaves
 
       pub foreign_stays : b ≡ bytes_on b (literal_on b ch)
       foreign_stays = stays b s (literal_on b ch) Foreign foreign_leaves
@@ -218,8 +217,8 @@ module _ (b : List ℕ) (v : Bool) (e : v ≡ bytes_sound b) (t : not v ≡ fals
         full_leaves =
             leaving_refused _ (composition_of b) _ 0 Full _ (literal_full (composition_of b) ch true whole u refl a w (rw (← p) l)) refl
 
-        pub full_told : Refused Full ≡ answer_on b (literal_on b ch)
-        full_told = told b s (literal_on b ch) _ (Refused Full) full_leaves
+        pub full_told : Err Full ≡ answer_on b (literal_on b ch)
+        full_told = told b s (literal_on b ch) _ (Err Full) full_leaves
 
         pub full_stays : b ≡ bytes_on b (literal_on b ch)
         full_stays = stays b s (literal_on b ch) Full full_leaves
@@ -227,7 +226,7 @@ module _ (b : List ℕ) (v : Bool) (e : v ≡ bytes_sound b) (t : not v ≡ fals
       module _ (l : n < limit) (x : Cell) (q : x ≡ typed ch) where
         literal_leaves : record {
           comp = with_count (with_cell (composition_of b) n x) (n + 1);
-          answer = Done 0;
+          answer = Ok 0;
         } ≡ literal_on b ch
         unfolding literal_on literal
         literal_leaves =
@@ -235,8 +234,8 @@ module _ (b : List ℕ) (v : Bool) (e : v ≡ bytes_sound b) (t : not v ≡ fals
             (literal_done (composition_of b) ch true whole u refl a w (rw (← p) l))
             (rw p (literal_appended (composition_of b) ch true whole u refl a w x (rw (← p) l) q))
 
-        pub literal_told : Done 0 ≡ answer_on b (literal_on b ch)
-        literal_told = told b s (literal_on b ch) _ (Done 0) literal_leaves
+        pub literal_told : Ok 0 ≡ answer_on b (literal_on b ch)
+        literal_told = told b s (literal_on b ch) _ (Ok 0) literal_leaves
 
         pub literal_stored : (s1 : List ℕ) → ((k : ℕ) → Fits w8 (byte_at b k)) → s1 ≡ stored b n x
             → set s1 2 (n + 1) ≡ bytes_on b (literal_on b ch)
@@ -245,14 +244,14 @@ module _ (b : List ℕ) (v : Bool) (e : v ≡ bytes_sound b) (t : not v ≡ fals
 
   -- ---- the text
   module _ (o : List ℕ) (n : ℕ) (p : n ≡ (composition_of b).count) where
-    pub text_short_told : length o < n → Refused Short ≡ text_on b (length o)
+    pub text_short_told : length o < n → Err Short ≡ text_on b (length o)
     unfolding text_on
     text_short_told l = rw s (text_short (composition_of b) true whole refl (length o) (rw (← p) l))
 
     pub text_short_stays : length o < n → o ≡ out_on b (text_outcome (composition_of b)) o
     text_short_stays l = written b s _ o o (text_short_out (composition_of b) true whole refl o (rw (← p) l))
 
-    pub text_told : n ≤ length o → Done n ≡ text_on b (length o)
+    pub text_told : n ≤ length o → Ok n ≡ text_on b (length o)
     unfolding text_on
     text_told l = rw s (text_done (composition_of b) true whole refl (length o) n (rw (← p) l) p)
 
@@ -267,8 +266,8 @@ module _ (b : List ℕ) (v : Bool) (e : v ≡ bytes_sound b) (t : not v ≡ fals
       unfolding removal_on
       empty_leaves = removal_empty (composition_of b) true whole refl (sym p ∙ z) (length o) _ refl
 
-      pub empty_told : Refused Empty ≡ answer_on b (removal_on b o)
-      empty_told = told b s (removal_on b o) _ (Refused Empty) empty_leaves
+      pub empty_told : Err Empty ≡ answer_on b (removal_on b o)
+      empty_told = told b s (removal_on b o) _ (Err Empty) empty_leaves
 
       pub empty_stays : b ≡ bytes_on b (removal_on b o)
       empty_stays = stays b s (removal_on b o) Empty empty_leaves
@@ -285,8 +284,8 @@ module _ (b : List ℕ) (v : Bool) (e : v ≡ bytes_sound b) (t : not v ≡ fals
         unfolding removal_on
         short_leaves = removal_short (composition_of b) true whole refl some (length o) _ (rw (← p) l) refl
 
-        pub short_told : Refused Short ≡ answer_on b (removal_on b o)
-        short_told = told b s (removal_on b o) _ (Refused Short) short_leaves
+        pub short_told : Err Short ≡ answer_on b (removal_on b o)
+        short_told = told b s (removal_on b o) _ (Err Short) short_leaves
 
         pub short_stays : b ≡ bytes_on b (removal_on b o)
         short_stays = stays b s (removal_on b o) Short short_leaves
@@ -297,13 +296,13 @@ module _ (b : List ℕ) (v : Bool) (e : v ≡ bytes_sound b) (t : not v ≡ fals
       module _ (l : n - 1 ≤ length o) where
         removal_leaves : (x : Cell) → x ≡ blank → record {
           comp = with_count (with_cell (composition_of b) (n - 1) x) (n - 1);
-          answer = Done (n - 1);
+          answer = Ok (n - 1);
         } ≡ removal_on b o
         unfolding removal_on
         removal_leaves x y = rw p (removal_done (composition_of b) true whole refl some (length o) _ x y (rw (← p) l) refl)
 
-        pub removal_told : Done (n - 1) ≡ answer_on b (removal_on b o)
-        removal_told = told b s (removal_on b o) _ (Done (n - 1)) (removal_leaves blank refl)
+        pub removal_told : Ok (n - 1) ≡ answer_on b (removal_on b o)
+        removal_told = told b s (removal_on b o) _ (Ok (n - 1)) (removal_leaves blank refl)
 
         module _ (x : Cell) (y : x ≡ blank) (s1 : List ℕ) (f : (k : ℕ) → Fits w8 (byte_at b k)) (h : s1 ≡ stored b (n - 1) x) where
           removal_bytes : set s1 2 (n - 1) ≡ bytes_of (with_count (with_cell (composition_of b) (n - 1) x) (n - 1))

@@ -1,4 +1,6 @@
 -- Every call leaves sound bytes where it finds them, and a new composition's are sound.
+use Rattle.std.specs.Prelude.{Err, Ok, Result}
+use Rattle.p0_refusals.specs.declared.Refusal.{Refusal}
 use Prim.Native.Nat.{ℕ}
 use mathlib.Core.Path.{◌≡◌}
 use mathlib.Core.Bool.{true}
@@ -6,8 +8,6 @@ use mathlib.Core.List.{List}
 use lib.Dec.{eqb, leb}
 use lib.ListN.{length}
 use Rattle.p0_choice.proofs.Choices.{pick_both}
-use Rattle.p0_refusals.specs.declared.Answer.{Answer}
-use Rattle.p0_refusals.specs.declared.Answer.TheVariants.{Done, Refused}
 use Rattle.p2_input_method.specs.declared.InputMethod.{InputMethod}
 use Rattle.p3_cells.specs.Cells.{is_sound}
 use Rattle.p3_cells.specs.declared.After.{After}
@@ -24,9 +24,9 @@ use Rattle.p6_composition.specs.UndoAnswer.{undo_leaving}
 use Rattle.p6_composition.specs.Calls.{answer_on, bytes_after, bytes_on, key_on, reset_on, literal_on, removal_on, undo_on, or_unsound}
 use Rattle.p6_composition.specs.Calls.{method_on, mode_on, capitals_on, new_on, new_bytes}
 
-after_sound : (a : Answer) (b : List ℕ) (d : Composition) → bytes_sound b ≡ true → is_sound d ≡ true → bytes_sound (bytes_after a b d) ≡ true
-after_sound (Done n) b d h s = written_sound d s
-after_sound (Refused r) b d h s = h
+after_sound : (a : Result ℕ Refusal) (b : List ℕ) (d : Composition) → bytes_sound b ≡ true → is_sound d ≡ true → bytes_sound (bytes_after a b d) ≡ true
+after_sound (Ok n) b d h s = written_sound d s
+after_sound (Err r) b d h s = h
 
 module _ (b : List ℕ) (h : bytes_sound b ≡ true) where
   on_sound : (s : After) → is_sound s.comp ≡ true → bytes_sound (bytes_on b s) ≡ true
@@ -100,7 +100,7 @@ pub new_made : (m : InputMethod) → bytes_sound (bytes_of (created m)) ≡ true
 new_made m = written_sound (created m) (new_sound m)
 
 -- whatever the bytes were before it
-pub new_makes_sound : (b : List ℕ) (m n : ℕ) → new_on b m ≡ Done n → bytes_sound (new_bytes b m) ≡ true
+pub new_makes_sound : (b : List ℕ) (m n : ℕ) → new_on b m ≡ Ok n → bytes_sound (new_bytes b m) ≡ true
 unfolding new_bytes
 new_makes_sound b m n e = rw e (new_made (method_of m))
 
@@ -121,9 +121,9 @@ new_kept : (b : List ℕ) → bytes_sound b ≡ true → (m : ℕ) → bytes_sou
 unfolding new_bytes
 new_kept b h m = go (new_on b m)
   where
-    go : (a : Answer) → bytes_sound (bytes_after a b (created (method_of m))) ≡ true
-    go (Done n) = new_made (method_of m)
-    go (Refused r) = h
+    go : (a : Result ℕ Refusal) → bytes_sound (bytes_after a b (created (method_of m))) ≡ true
+    go (Ok n) = new_made (method_of m)
+    go (Err r) = h
 
 -- every call keeps a sound composition sound
 pub calls_keep_sound : (b : List ℕ) {d : List ℕ} → bytes_sound b ≡ true → Leaves b d → bytes_sound d ≡ true

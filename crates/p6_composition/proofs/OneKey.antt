@@ -1,4 +1,5 @@
 -- Each way through the key on bytes. What it leaves is what the stroke of a key leaves (p3_key, proofs/Right).
+use Rattle.std.specs.Prelude.{Err, Ok}
 use Prim.Native.Nat.{ℕ, ◌+◌, ◌-◌, ◌<◌, ◌≤◌}
 use mathlib.Core.Path.{◌≡◌, refl, sym, ap, ◌∙◌}
 use mathlib.Core.Bool.{Bool, true, false, not}
@@ -8,7 +9,6 @@ use lib.ListN.{length, take, drop, set, length-set}
 use borrow.Author.Tests.{lt-ltb, le-ltb, not-true}
 use mir.Syntax.{w8}
 use mir.Val.{Fits}
-use Rattle.p0_refusals.specs.declared.Answer.TheVariants.{Done, Refused}
 use Rattle.p0_refusals.specs.declared.Refusal.{Refusal}
 use Rattle.p0_refusals.specs.declared.Refusal.TheVariants.{Foreign, Full, Short}
 use Rattle.p1_letters.specs.Alphabet.{in_alphabet, ascii_lower}
@@ -118,7 +118,7 @@ module _ (b : List ℕ) (v : Bool) (e : v ≡ bytes_sound b) (t : not v ≡ fals
   unfolding answer_on key_on keyed leaving
   told d q = rw s (right d q).told
 
-  refused_told : (r : Refusal) → IsStroke (no_stroke r (composition_of b).count) → Refused r ≡ answer_on b (key_on b key o)
+  refused_told : (r : Refusal) → IsStroke (no_stroke r (composition_of b).count) → Err r ≡ answer_on b (key_on b key o)
   refused_told r q = told (no_stroke r (composition_of b).count) q
 
   refused_stays : (r : Refusal) → IsStroke (no_stroke r (composition_of b).count) → b ≡ bytes_on b (key_on b key o)
@@ -137,7 +137,7 @@ module _ (b : List ℕ) (v : Bool) (e : v ≡ bytes_sound b) (t : not v ≡ fals
   -- a refusal: nothing changes
   abbrev Refuses : Refusal → Type 0
   Refuses r =
-      (Refused r ≡ answer_on b (key_on b key o)) × (b ≡ bytes_on b (key_on b key o)) × (o ≡ out_on b (key_outcome (composition_of b) key) o)
+      (Err r ≡ answer_on b (key_on b key o)) × (b ≡ bytes_on b (key_on b key o)) × (o ≡ out_on b (key_outcome (composition_of b) key) o)
 
   refused : (r : Refusal) → IsStroke (no_stroke r (composition_of b).count) → Refuses r
   refused r q = (refused_told r q, refused_stays r q, refused_out r q)
@@ -167,7 +167,7 @@ module _ (b : List ℕ) (v : Bool) (e : v ≡ bytes_sound b) (t : not v ≡ fals
           unfolding pass_stroke
           passes = stroke_pass true _ _ key _ _ _ u refl a w (english _ i h z) (rw (le-ltb (length o) 1 l) refl)
 
-          pub pass_told : Done 1 ≡ answer_on b (key_on b key o)
+          pub pass_told : Ok 1 ≡ answer_on b (key_on b key o)
           pass_told = told _ passes
 
           pub pass_stays : ((j : ℕ) → Fits w8 (byte_at b j)) → b ≡ bytes_on b (key_on b key o)
@@ -230,7 +230,7 @@ module _ (b : List ℕ) (v : Bool) (e : v ≡ bytes_sound b) (t : not v ≡ fals
             writes : IsStroke (wrote r)
             writes = by_step _ (step_done r (composition_of b).count (length o) l l')
 
-            key_told : Done r.count ≡ answer_on b (key_on b key o)
+            key_told : Ok r.count ≡ answer_on b (key_on b key o)
             key_told = told (wrote r) writes
 
             module _ (new : List ℕ) (f : (j : ℕ) → Fits w8 (byte_at b j)) (h' : new ≡ applied b r key k) where
@@ -259,7 +259,7 @@ module _ (b : List ℕ) (v : Bool) (e : v ≡ bytes_sound b) (t : not v ≡ fals
                   ∙ all_letters_lem key (stroked (composition_of b) (wrote r) key) r.count o (vietnamese _ i h z))
 
               pub done_key : (text : List ℕ) → text ≡ first_text (composition_of new) r.count ++ drop r.count o
-                  → (Done r.count ≡ answer_on b (key_on b key o)) × (new ≡ bytes_on b (key_on b key o))
+                  → (Ok r.count ≡ answer_on b (key_on b key o)) × (new ≡ bytes_on b (key_on b key o))
                   × (text ≡ out_on b (key_outcome (composition_of b) key) o)
               done_key text j = (key_told, key_stored, key_written text j)
 

@@ -1,4 +1,5 @@
 -- Each way through undo on bytes. What it leaves is what the undo by value leaves (p3_undo, proofs/Call).
+use Rattle.std.specs.Prelude.{Err, Ok, Result}
 use Prim.Native.Nat.{ℕ, ◌-◌, ◌<◌, ◌≤◌}
 use Prim.Native.Char.{code}
 use mathlib.Core.Path.{◌≡◌, refl, sym, ap, ◌∙◌}
@@ -10,8 +11,6 @@ use mir.Syntax.{w8}
 use mir.Val.{Fits}
 use Rattle.p0_choice.specs.Choice.{pick}
 use Rattle.p0_refusals.specs.Limits.{letter_limit}
-use Rattle.p0_refusals.specs.declared.Answer.{Answer}
-use Rattle.p0_refusals.specs.declared.Answer.TheVariants.{Done, Refused}
 use Rattle.p0_refusals.specs.declared.Refusal.{Refusal}
 use Rattle.p0_refusals.specs.declared.Refusal.TheVariants.{Foreign, NoUndo as NothingToUndo, Long}
 use Rattle.p1_letters.specs.Alphabet.{in_alphabet, all_letters, ascii_lower}
@@ -26,7 +25,7 @@ use Rattle.p3_undo.specs.Mirror.{signs, sign_cells}
 use Rattle.p3_undo.specs.Raw.{raw_lowered}
 use Rattle.p3_undo.specs.Undo.{to_undo, tone_lost, restored}
 use Rattle.p3_undo.specs.declared.TelexUndo.{TelexUndo}
-use Rattle.p3_undo.specs.declared.TelexUndo.TheVariants.{AppendTrigger, ConsumeTrigger, Refused as NoUndo}
+use Rattle.p3_undo.specs.declared.TelexUndo.TheVariants.{AppendTrigger, ConsumeTrigger, Err as NoUndo}
 use Rattle.p3_undo.specs.declared.Undoing.{Undoing}
 use Rattle.p3_undo.specs.declared.Undoing.TheVariants.{Nothing, Tone, Mark}
 use Rattle.p3_undo.proofs.Call.{undo_nothing, undo_toneless, undo_restored, undo_long, undo_foreign, undo_raw, undo_done}
@@ -43,21 +42,21 @@ use Rattle.p6_composition.proofs.Calls.{ok_sound}
 use Rattle.p6_composition.proofs.InPlace.{told, stays, becomes, cell_in}
 
 -- ---- the answer
-pub appends : (u : TelexUndo) → u ≡ AppendTrigger → Done 0 ≡ undo_answer u
+pub appends : (u : TelexUndo) → u ≡ AppendTrigger → Ok 0 ≡ undo_answer u
 appends u e = rw e refl
 
-pub consumes : (u : TelexUndo) → u ≡ ConsumeTrigger → Done 1 ≡ undo_answer u
+pub consumes : (u : TelexUndo) → u ≡ ConsumeTrigger → Ok 1 ≡ undo_answer u
 consumes u e = rw e refl
 
-pub no_undo : (u : TelexUndo) (r : Refusal) → u ≡ NoUndo r → Refused r ≡ undo_answer u
+pub no_undo : (u : TelexUndo) (r : Refusal) → u ≡ NoUndo r → Err r ≡ undo_answer u
 no_undo u r e = rw e refl
 
 -- a mark that is found is undone
-done_by : (r : MarkRule) → (n : ℕ) × (undo_answer (behaviour r) ≡ Done n)
+done_by : (r : MarkRule) → (n : ℕ) × (undo_answer (behaviour r) ≡ Ok n)
 unfolding behaviour
 done_by r = go (eqb r.first (code "d")) (eqb r.key (code "d"))
   where
-    go : (a b : Bool) → (n : ℕ) × (undo_answer (pick a (pick b ConsumeTrigger AppendTrigger) AppendTrigger) ≡ Done n)
+    go : (a b : Bool) → (n : ℕ) × (undo_answer (pick a (pick b ConsumeTrigger AppendTrigger) AppendTrigger) ≡ Ok n)
     go true true = (1, refl)
     go true false = (0, refl)
     go false b = (0, refl)
@@ -84,8 +83,8 @@ module _ (b : List ℕ) (s : bytes_sound b ≡ true) (raw : List ℕ) (t : ℕ) 
   unfolding found_on undo_leaving
   nothing z = ap undo_leaving (undo_nothing (composition_of b) (raw_lowered raw) t u (sound_composition b s) q z)
 
-  pub nothing_told : u ≡ Nothing → Refused NothingToUndo ≡ answer_on b (found_on b raw t)
-  nothing_told z = told b s (found_on b raw t) _ (Refused NothingToUndo) (nothing z)
+  pub nothing_told : u ≡ Nothing → Err NothingToUndo ≡ answer_on b (found_on b raw t)
+  nothing_told z = told b s (found_on b raw t) _ (Err NothingToUndo) (nothing z)
 
   pub nothing_left : u ≡ Nothing → b ≡ bytes_on b (found_on b raw t)
   nothing_left z = stays b s (found_on b raw t) NothingToUndo (nothing z)
@@ -96,12 +95,12 @@ module _ (b : List ℕ) (s : bytes_sound b ≡ true) (raw : List ℕ) (t : ℕ) 
     changed new f h m = m ∙ cell_in b f s i y h
 
     module _ (c : u ≡ Tone i) (d : y ≡ tone_lost x) where
-      toned : record { comp = with_cell (composition_of b) i y; answer = Done 0 } ≡ found_on b raw t
+      toned : record { comp = with_cell (composition_of b) i y; answer = Ok 0 } ≡ found_on b raw t
       unfolding found_on undo_leaving
       toned = ap undo_leaving (undo_toneless (composition_of b) (raw_lowered raw) t u (sound_composition b s) q i x y c o d)
 
-      pub tone_told : Done 0 ≡ answer_on b (found_on b raw t)
-      tone_told = told b s (found_on b raw t) _ (Done 0) toned
+      pub tone_told : Ok 0 ≡ answer_on b (found_on b raw t)
+      tone_told = told b s (found_on b raw t) _ (Ok 0) toned
 
       pub tone_left : (new : List ℕ) → ((k : ℕ) → Fits w8 (byte_at b k)) → new ≡ stored b i y → new ≡ bytes_on b (found_on b raw t)
       tone_left new f m = becomes b s (found_on b raw t) _ 0 new toned (changed new f (tone_there i c) m)
@@ -111,7 +110,7 @@ module _ (b : List ℕ) (s : bytes_sound b ≡ true) (raw : List ℕ) (t : ℕ) 
       unfolding found_on undo_leaving
       marked = ap undo_leaving (undo_restored (composition_of b) (raw_lowered raw) t u (sound_composition b s) q i r x y w c o d g)
 
-      pub mark_told : (a : Answer) → a ≡ undo_answer w → a ≡ answer_on b (found_on b raw t)
+      pub mark_told : (a : Result ℕ Refusal) → a ≡ undo_answer w → a ≡ answer_on b (found_on b raw t)
       mark_told a m = m ∙ told b s (found_on b raw t) _ (undo_answer w) marked
 
       pub mark_left : (new : List ℕ) → ((k : ℕ) → Fits w8 (byte_at b k)) → new ≡ stored b i y → new ≡ bytes_on b (found_on b raw t)
@@ -132,27 +131,27 @@ module _ (b : List ℕ) (v : Bool) (e : v ≡ bytes_sound b) (a : not v ≡ fals
   unfolding undo_on undo_leaving
   refused r q = ap undo_leaving q
 
-  refused_told : (r : Refusal) → not_undone (composition_of b) r ≡ undo_telex (composition_of b) k raw → Refused r ≡ answer_on b (undo_on b k raw)
-  refused_told r q = told b s (undo_on b k raw) _ (Refused r) (refused r q)
+  refused_told : (r : Refusal) → not_undone (composition_of b) r ≡ undo_telex (composition_of b) k raw → Err r ≡ answer_on b (undo_on b k raw)
+  refused_told r q = told b s (undo_on b k raw) _ (Err r) (refused r q)
 
   refused_left : (r : Refusal) → not_undone (composition_of b) r ≡ undo_telex (composition_of b) k raw → b ≡ bytes_on b (undo_on b k raw)
   refused_left r q = stays b s (undo_on b k raw) r (refused r q)
 
-  pub long_told : letter_limit < length raw → Refused Long ≡ answer_on b (undo_on b k raw)
+  pub long_told : letter_limit < length raw → Err Long ≡ answer_on b (undo_on b k raw)
   long_told l = refused_told Long (undo_long (composition_of b) k raw _ true whole refl l refl)
 
   pub long_left : letter_limit < length raw → b ≡ bytes_on b (undo_on b k raw)
   long_left l = refused_left Long (undo_long (composition_of b) k raw _ true whole refl l refl)
 
   module _ (l : length raw ≤ letter_limit) (x : Bool) (f : x ≡ in_alphabet k) where
-    pub trigger_told : not x ≡ true → Refused Foreign ≡ answer_on b (undo_on b k raw)
+    pub trigger_told : not x ≡ true → Err Foreign ≡ answer_on b (undo_on b k raw)
     trigger_told h = refused_told Foreign (undo_foreign (composition_of b) k raw _ true whole refl x l f h refl)
 
     pub trigger_left : not x ≡ true → b ≡ bytes_on b (undo_on b k raw)
     trigger_left h = refused_left Foreign (undo_foreign (composition_of b) k raw _ true whole refl x l f h refl)
 
     module _ (h : not x ≡ false) (y : Bool) (g : y ≡ all_letters raw) where
-      pub raw_told : not y ≡ true → Refused Foreign ≡ answer_on b (undo_on b k raw)
+      pub raw_told : not y ≡ true → Err Foreign ≡ answer_on b (undo_on b k raw)
       raw_told j = refused_told Foreign (undo_raw (composition_of b) k raw _ true whole refl x l f y h g j refl)
 
       pub raw_left : not y ≡ true → b ≡ bytes_on b (undo_on b k raw)
@@ -163,7 +162,7 @@ module _ (b : List ℕ) (v : Bool) (e : v ≡ bytes_sound b) (a : not v ≡ fals
         unfolding found_on undo_on
         found = ap undo_leaving (undo_done (composition_of b) k raw _ true whole refl x l f y h g t j p refl)
 
-        pub found_told : (r : Answer) → r ≡ answer_on b (found_on b raw t) → r ≡ answer_on b (undo_on b k raw)
+        pub found_told : (r : Result ℕ Refusal) → r ≡ answer_on b (found_on b raw t) → r ≡ answer_on b (undo_on b k raw)
         found_told r q = q ∙ ap (answer_on b) found
 
         pub found_left : (new : List ℕ) → new ≡ bytes_on b (found_on b raw t) → new ≡ bytes_on b (undo_on b k raw)

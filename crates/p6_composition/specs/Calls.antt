@@ -1,10 +1,9 @@
 -- The calls on a composition given as bytes: "Bytes of another length, or that spell no method, mode or cell, are not
 -- sound", and "10: composition not sound". Otherwise each is the call by value on the composition that they spell.
-use Rattle.std.specs.Prelude.{ℕ, List, eqb, leb, length}
+use Rattle.p0_refusals.specs.declared.Refusal.{Refusal}
+use Rattle.std.specs.Prelude.{ℕ, List, eqb, leb, length, Err, Ok, Result}
 use Rattle.p0_choice.specs.Choice.{pick}
 use Rattle.p0_refusals.specs.Answers.{Outcome, answer, unless, output}
-use Rattle.p0_refusals.specs.declared.Answer.{Answer}
-use Rattle.p0_refusals.specs.declared.Answer.TheVariants.{Done, Refused}
 use Rattle.p0_refusals.specs.declared.Refusal.TheVariants.{Unsound}
 use Rattle.p3_cells.specs.Leaving.{refusing}
 use Rattle.p3_cells.specs.declared.After.{After}
@@ -18,11 +17,11 @@ use Rattle.p6_bytes.specs.Bytes.{size, bytes_of, composition_of, method_of, byte
 use Rattle.p6_composition.specs.UndoAnswer.{undo_leaving}
 
 -- the answer, where k is what the call by value leaves of the composition that the bytes spell
-unfoldable pub answer_on : List ℕ → After → Answer
-answer_on b k = pick (bytes_sound b) k.answer (Refused Unsound)
+unfoldable pub answer_on : List ℕ → After → Result ℕ Refusal
+answer_on b k = pick (bytes_sound b) k.answer (Err Unsound)
 
 -- "A refusal returns its number; the composition .. [stays as it was]": the bytes after an answer, b before
-abbrev pub bytes_after : Answer → List ℕ → Composition → List ℕ
+abbrev pub bytes_after : Result ℕ Refusal → List ℕ → Composition → List ℕ
 bytes_after a b d = unless a b (bytes_of d)
 
 unfoldable pub bytes_on : List ℕ → After → List ℕ
@@ -64,12 +63,12 @@ unfoldable pub capitals_on : List ℕ → ℕ → After
 capitals_on b on = or_unsound b on (capitals_set (composition_of b) (eqb on 1))
 
 -- ---- the text, which changes nothing
-unfoldable pub text_on : List ℕ → ℕ → Answer
-text_on b n = pick (bytes_sound b) (answer (text_outcome (composition_of b)) n) (Refused Unsound)
+unfoldable pub text_on : List ℕ → ℕ → Result ℕ Refusal
+text_on b n = pick (bytes_sound b) (answer (text_outcome (composition_of b)) n) (Err Unsound)
 
 -- ---- a new composition, in bytes that may be any
-unfoldable pub new_on : List ℕ → ℕ → Answer
-new_on b method = pick (eqb (length b) size) (pick (leb method 1) (Done 0) (Refused Unsound)) (Refused Unsound)
+unfoldable pub new_on : List ℕ → ℕ → Result ℕ Refusal
+new_on b method = pick (eqb (length b) size) (pick (leb method 1) (Ok 0) (Err Unsound)) (Err Unsound)
 
 unfoldable pub new_bytes : List ℕ → ℕ → List ℕ
 new_bytes b method = bytes_after (new_on b method) b (created (method_of method))

@@ -18,7 +18,7 @@ ghost use Rattle.p6_composition.specs.UndoAnswer.{undo_answer};
 ghost use Rattle.p6_composition.specs.Calls.{answer_on, bytes_on, out_on, key_on, reset_on, literal_on, removal_on, undo_on};
 ghost use Rattle.p6_composition.specs.Calls.{method_on, mode_on, capitals_on, text_on, new_on, new_bytes};
 
-use p0_refusals::{Answer, LETTERS, Refusal};
+use p0_refusals::{LETTERS, Refusal};
 use p1_letters as letters;
 use p2_input_method::InputMethod;
 use p3_cells as cells;
@@ -96,109 +96,109 @@ fn apply(b: &mut [u8], s: Step, key: u32, k: u32)
     b[2] = count;
 }
 
-pub fn process_key(state: &mut [u8], key: u32, out: &mut [u32]) -> Answer
+pub fn process_key(state: &mut [u8], key: u32, out: &mut [u32]) -> Result<usize, Refusal>
     ensures { (result ≡ answer_on state.old (key_on state.old key out.old))
         × (state.new ≡ bytes_on state.old (key_on state.old key out.old))
         × (out.new ≡ out_on state.old (key_outcome (composition_of state.old) key) out.old) }
 {
     if !bytes::bytes_ok(state) {
-        return Answer::Refused(Refusal::Unsound);
+        return Err(Refusal::Unsound);
     }
     if !letters::in_alphabet(key) {
-        return Answer::Refused(Refusal::Foreign);
+        return Err(Refusal::Foreign);
     }
     let o = bytes::mode_number(state);
     if o == 1 {
         if out.len() < 1 {
-            return Answer::Refused(Refusal::Short);
+            return Err(Refusal::Short);
         }
         out[0] = key;
-        return Answer::Done(1);
+        return Ok(1);
     }
     let z = bytes::settings(state);
     let k = letters::ascii_lower(key);
     let s = step_on(state, z, k, bytes::cell_count(state));
     let count = s.count;
     if LIMIT < count {
-        return Answer::Refused(Refusal::Full);
+        return Err(Refusal::Full);
     }
     if out.len() < count {
-        return Answer::Refused(Refusal::Short);
+        return Err(Refusal::Short);
     }
     apply(state, s, key, k);
     text(state, count, out);
-    Answer::Done(count)
+    Ok(count)
 }
 
 // ---- the other calls
 
-pub fn reset(state: &mut [u8]) -> Answer
+pub fn reset(state: &mut [u8]) -> Result<usize, Refusal>
     ensures { (result ≡ answer_on state.old (reset_on state.old))
         × (state.new ≡ bytes_on state.old (reset_on state.old)) }
 {
     if !bytes::bytes_ok(state) {
-        return Answer::Refused(Refusal::Unsound);
+        return Err(Refusal::Unsound);
     }
     bytes::clear(state);
-    Answer::Done(0)
+    Ok(0)
 }
 
-pub fn append_literal(state: &mut [u8], letter: u32) -> Answer
+pub fn append_literal(state: &mut [u8], letter: u32) -> Result<usize, Refusal>
     ensures { (result ≡ answer_on state.old (literal_on state.old letter))
         × (state.new ≡ bytes_on state.old (literal_on state.old letter)) }
 {
     if !bytes::bytes_ok(state) {
-        return Answer::Refused(Refusal::Unsound);
+        return Err(Refusal::Unsound);
     }
     if !letters::in_alphabet(letter) {
-        return Answer::Refused(Refusal::Foreign);
+        return Err(Refusal::Foreign);
     }
     let n = bytes::cell_count(state);
     if LIMIT <= n {
-        return Answer::Refused(Refusal::Full);
+        return Err(Refusal::Full);
     }
     let x = cells::typed(letter);
     bytes::store(state, n, x);
     state[2] = (n + 1) as u8;
-    Answer::Done(0)
+    Ok(0)
 }
 
-pub fn pop_last(state: &mut [u8], out: &mut [u32]) -> Answer
+pub fn pop_last(state: &mut [u8], out: &mut [u32]) -> Result<usize, Refusal>
     ensures { (result ≡ answer_on state.old (removal_on state.old out.old))
         × (state.new ≡ bytes_on state.old (removal_on state.old out.old))
         × (out.new ≡ out_on state.old (removal_outcome (composition_of state.old)) out.old) }
 {
     if !bytes::bytes_ok(state) {
-        return Answer::Refused(Refusal::Unsound);
+        return Err(Refusal::Unsound);
     }
     let n = bytes::cell_count(state);
     if n == 0 {
-        return Answer::Refused(Refusal::Empty);
+        return Err(Refusal::Empty);
     }
     let m = n - 1;
     if out.len() < m {
-        return Answer::Refused(Refusal::Short);
+        return Err(Refusal::Short);
     }
     let z = cells::blank();
     bytes::store(state, m, z);
     state[2] = m as u8;
     text(state, m, out);
-    Answer::Done(m)
+    Ok(m)
 }
 
-pub fn get_output(state: &[u8], out: &mut [u32]) -> Answer
+pub fn get_output(state: &[u8], out: &mut [u32]) -> Result<usize, Refusal>
     ensures { (result ≡ text_on state.now (length out.old))
         × (out.new ≡ out_on state.now (text_outcome (composition_of state.now)) out.old) }
 {
     if !bytes::bytes_ok(state) {
-        return Answer::Refused(Refusal::Unsound);
+        return Err(Refusal::Unsound);
     }
     let n = bytes::cell_count(state);
     if out.len() < n {
-        return Answer::Refused(Refusal::Short);
+        return Err(Refusal::Short);
     }
     text(state, n, out);
-    Answer::Done(n)
+    Ok(n)
 }
 
 // ---- undo
@@ -230,30 +230,30 @@ fn undo_on(b: &[u8], n: usize, raw: &[u32], t: u32) -> Undoing
 }
 
 // The other calls' answer: a number is told, or a refusal.
-fn undo_answer(u: TelexUndo) -> Answer
+fn undo_answer(u: TelexUndo) -> Result<usize, Refusal>
     ensures { result ≡ undo_answer u }
 {
     match u {
-        TelexUndo::AppendTrigger => Answer::Done(0),
-        TelexUndo::ConsumeTrigger => Answer::Done(1),
-        TelexUndo::Refused(why) => Answer::Refused(why),
+        TelexUndo::AppendTrigger => Ok(0),
+        TelexUndo::ConsumeTrigger => Ok(1),
+        TelexUndo::Refused(why) => Err(why),
     }
 }
 
 // Stores what is found.
-fn undo_found(state: &mut [u8], n: usize, raw: &[u32], t: u32) -> Answer
+fn undo_found(state: &mut [u8], n: usize, raw: &[u32], t: u32) -> Result<usize, Refusal>
     requires { (bytes_sound state.old ≡ true) × (n ≡ (composition_of state.old).count) × (n ≤ limit) }
     ensures { (result ≡ answer_on state.old (found_on state.old raw.now t))
         × (state.new ≡ bytes_on state.old (found_on state.old raw.now t)) }
 {
     let u = undo_on(state, n, raw, t);
     match u {
-        Undoing::Nothing => Answer::Refused(Refusal::NoUndo),
+        Undoing::Nothing => Err(Refusal::NoUndo),
         Undoing::Tone(i) => {
             let x = bytes::cell(state, i);
             let y = undo::tone_lost(x);
             bytes::store(state, i, y);
-            Answer::Done(0)
+            Ok(0)
         }
         Undoing::Mark(i, r) => {
             let x = bytes::cell(state, i);
@@ -265,21 +265,21 @@ fn undo_found(state: &mut [u8], n: usize, raw: &[u32], t: u32) -> Answer
     }
 }
 
-pub fn undo_telex_transform(state: &mut [u8], trigger: u32, raw: &[u32]) -> Answer
+pub fn undo_telex_transform(state: &mut [u8], trigger: u32, raw: &[u32]) -> Result<usize, Refusal>
     ensures { (result ≡ answer_on state.old (undo_on state.old trigger raw.now))
         × (state.new ≡ bytes_on state.old (undo_on state.old trigger raw.now)) }
 {
     if !bytes::bytes_ok(state) {
-        return Answer::Refused(Refusal::Unsound);
+        return Err(Refusal::Unsound);
     }
     if LETTERS < raw.len() {
-        return Answer::Refused(Refusal::Long);
+        return Err(Refusal::Long);
     }
     if !letters::in_alphabet(trigger) {
-        return Answer::Refused(Refusal::Foreign);
+        return Err(Refusal::Foreign);
     }
     if !letters::all_letters(raw) {
-        return Answer::Refused(Refusal::Foreign);
+        return Err(Refusal::Foreign);
     }
     let t = letters::ascii_lower(trigger);
     undo_found(state, bytes::cell_count(state), raw, t)
@@ -296,65 +296,65 @@ pub fn method_of(method: u32) -> InputMethod
     InputMethod::Vni
 }
 
-pub fn set_method(state: &mut [u8], method: u32) -> Answer
+pub fn set_method(state: &mut [u8], method: u32) -> Result<usize, Refusal>
     ensures { (result ≡ answer_on state.old (method_on state.old method))
         × (state.new ≡ bytes_on state.old (method_on state.old method)) }
 {
     if !bytes::bytes_ok(state) {
-        return Answer::Refused(Refusal::Unsound);
+        return Err(Refusal::Unsound);
     }
     if 1 < method {
-        return Answer::Refused(Refusal::Unsound);
+        return Err(Refusal::Unsound);
     }
     state[0] = method as u8;
     bytes::clear(state);
-    Answer::Done(0)
+    Ok(0)
 }
 
-pub fn set_mode(state: &mut [u8], mode: u32) -> Answer
+pub fn set_mode(state: &mut [u8], mode: u32) -> Result<usize, Refusal>
     ensures { (result ≡ answer_on state.old (mode_on state.old mode))
         × (state.new ≡ bytes_on state.old (mode_on state.old mode)) }
 {
     if !bytes::bytes_ok(state) {
-        return Answer::Refused(Refusal::Unsound);
+        return Err(Refusal::Unsound);
     }
     if 1 < mode {
-        return Answer::Refused(Refusal::Unsound);
+        return Err(Refusal::Unsound);
     }
     state[1] = mode as u8;
     if mode == 0 {
-        return Answer::Done(0);
+        return Ok(0);
     }
     bytes::clear(state);
-    Answer::Done(0)
+    Ok(0)
 }
 
 // 1 turns capitals on, and 0 off: no cell changes.
-pub fn set_capitals(state: &mut [u8], on: u32) -> Answer
+pub fn set_capitals(state: &mut [u8], on: u32) -> Result<usize, Refusal>
     ensures { (result ≡ answer_on state.old (capitals_on state.old on))
         × (state.new ≡ bytes_on state.old (capitals_on state.old on)) }
 {
     if !bytes::bytes_ok(state) {
-        return Answer::Refused(Refusal::Unsound);
+        return Err(Refusal::Unsound);
     }
     if 1 < on {
-        return Answer::Refused(Refusal::Unsound);
+        return Err(Refusal::Unsound);
     }
     state[3] = on as u8;
-    Answer::Done(0)
+    Ok(0)
 }
 
 // An empty Vietnamese composition, capitals off, whatever the bytes were.
-pub fn new(state: &mut [u8], method: u32) -> Answer
+pub fn new(state: &mut [u8], method: u32) -> Result<usize, Refusal>
     ensures { (result ≡ new_on state.old method) × (state.new ≡ new_bytes state.old method) }
 {
     if state.len() != bytes::SIZE {
-        return Answer::Refused(Refusal::Unsound);
+        return Err(Refusal::Unsound);
     }
     if 1 < method {
-        return Answer::Refused(Refusal::Unsound);
+        return Err(Refusal::Unsound);
     }
     state[0] = method as u8;
     zeros::put_zeros(state, 1, bytes::SIZE);
-    Answer::Done(0)
+    Ok(0)
 }

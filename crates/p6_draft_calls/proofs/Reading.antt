@@ -1,4 +1,6 @@
 -- Each way through the readers.
+use Rattle.std.specs.Prelude.{Err, Ok, Result}
+use Rattle.p0_refusals.specs.declared.Refusal.{Refusal}
 use Prim.Native.Nat.{ℕ}
 use mathlib.Core.Path.{◌≡◌, refl}
 use mathlib.Core.Bool.{Bool, true, false, not}
@@ -7,8 +9,6 @@ use lib.ListN.{length}
 use borrow.Author.Tests.{eq-eqb, ne_eqb}
 use mir.Syntax.{w8}
 use mir.Val.{Fits}
-use Rattle.p0_refusals.specs.declared.Answer.{Answer}
-use Rattle.p0_refusals.specs.declared.Answer.TheVariants.{Done, Refused}
 use Rattle.p0_refusals.specs.declared.Refusal.TheVariants.{Unsound, NoDraft}
 use Rattle.p3_cells.specs.Leaving.{refusing}
 use Rattle.p3_cells.specs.declared.After.{After}
@@ -30,28 +30,28 @@ module _ (b : List ℕ) (c : Composition) (v : Bool) (e : v ≡ is_draft b) wher
   read_refused t = (none, fails_means b v e t, refl)
 
   pub read_given : (d : Composition) → not v ≡ false → ((k : ℕ) → Fits w8 (byte_at b k)) → d ≡ draft_composition b
-      → Read b c (record { comp = d; answer = Done 0 })
+      → Read b c (record { comp = d; answer = Ok 0 })
   unfolding read_to
   read_given d t f p = (gives (draft_composition b), passes_means b v e t f, rw p refl)
 
 -- ---- on bytes
-abbrev ReadOn : List ℕ → List ℕ → Answer → List ℕ → Type 0
+abbrev ReadOn : List ℕ → List ℕ → Result ℕ Refusal → List ℕ → Type 0
 ReadOn b s a new = (u : Reading) × Means b u × (a ≡ read_on u s) × (new ≡ read_bytes u s)
 
 module _ (b s : List ℕ) where
-  pub read_size : ((k : ℕ) → Fits w8 (byte_at b k)) → (length s ≡ size → ⊥) → ReadOn b s (Refused Unsound) s
+  pub read_size : ((k : ℕ) → Fits w8 (byte_at b k)) → (length s ≡ size → ⊥) → ReadOn b s (Err Unsound) s
   unfolding read_on read_bytes read_to
   read_size f h =
       let m = some_reading b f in
       (m.0, m.1, rw (ne_eqb (length s) size h) refl, rw (ne_eqb (length s) size h) refl)
 
   module _ (l : length s ≡ size) (v : Bool) (e : v ≡ is_draft b) where
-    pub read_none : not v ≡ true → ReadOn b s (Refused NoDraft) s
+    pub read_none : not v ≡ true → ReadOn b s (Err NoDraft) s
     unfolding read_on read_bytes read_to
     read_none t = (none, fails_means b v e t, rw (eq-eqb (length s) size l) refl, rw (eq-eqb (length s) size l) refl)
 
     pub read_done : (new : List ℕ) → not v ≡ false → ((k : ℕ) → Fits w8 (byte_at b k)) → new ≡ bytes_of (draft_composition b)
-        → ReadOn b s (Done 0) new
+        → ReadOn b s (Ok 0) new
     unfolding read_on read_bytes read_to
     read_done new t f p =
         (gives (draft_composition b), passes_means b v e t f, rw (eq-eqb (length s) size l) refl, rw (eq-eqb (length s) size l) p)

@@ -1,11 +1,11 @@
 -- With room for the longest draft neither writer refuses by 3.
+use Rattle.std.specs.Prelude.{Err}
 use Prim.Native.Nat.{ℕ, ◌≤◌}
 use mathlib.Core.Path.{◌≡◌, refl}
 use mathlib.Core.Bool.{Bool, true, false}
 use mathlib.Core.List.{List}
 use native.Mathlib.Omega.{arith}
 use Rattle.p0_refusals.specs.Answers.{answer}
-use Rattle.p0_refusals.specs.declared.Answer.TheVariants.{Refused}
 use Rattle.p0_refusals.specs.declared.Refusal.TheVariants.{Short}
 use Rattle.p0_refusals.proofs.Room.{Fits, enough}
 use Rattle.p3_cells.specs.Cells.{is_sound}
@@ -21,8 +21,8 @@ fits : (t : Bool) (c : Composition) → (t ≡ true → is_sound c ≡ true) →
 fits true c g = draft_fits c (g refl)
 fits false c g = λ e. let z : ◌≡◌ {A = ℕ} 0 1 = cc in omega arith
 
-pub value_has_room : (c : Composition) (n : ℕ) → draft_room ≤ n → answer (draft_outcome c) n ≡ Refused Short → ⊥
+pub value_has_room : (c : Composition) (n : ℕ) → draft_room ≤ n → answer (draft_outcome c) n ≡ Err Short → ⊥
 value_has_room c n = enough (draft_outcome c) draft_room n (rw (value_is c) (fits (is_sound c) c (λ s. s)))
 
-pub bytes_have_room : (b : List ℕ) (n : ℕ) → draft_room ≤ n → answer (bytes_outcome b) n ≡ Refused Short → ⊥
+pub bytes_have_room : (b : List ℕ) (n : ℕ) → draft_room ≤ n → answer (bytes_outcome b) n ≡ Err Short → ⊥
 bytes_have_room b n = enough (bytes_outcome b) draft_room n (rw (bytes_is b) (fits (bytes_sound b) (composition_of b) (sound_composition b)))

@@ -1,5 +1,6 @@
 -- Each way through the writers, of a composition c by value or as bytes: t says whether it is sound, v is the test of it, w what there
 -- is to write, and n its count.
+use Rattle.std.specs.Prelude.{Err, Ok}
 use Prim.Native.Nat.{ℕ, ◌*◌, ◌≤◌, ◌<◌}
 use mathlib.Core.Path.{◌≡◌, refl, sym, ◌∙◌}
 use mathlib.Core.Bool.{Bool, true, false, not}
@@ -11,7 +12,6 @@ use mir.Syntax.{w64}
 use mir.Val.{Fits}
 use Rattle.p0_choice.specs.Choice.{pick}
 use Rattle.p0_refusals.specs.Answers.{Outcome, writes, refuses, answer, output}
-use Rattle.p0_refusals.specs.declared.Answer.TheVariants.{Done, Refused}
 use Rattle.p0_refusals.specs.declared.Refusal.TheVariants.{Short, Unsound}
 use Rattle.p0_refusals.proofs.Answers.{refuses_answer, refuses_output, short_answer, short_output, writes_answer, writes_output}
 use Rattle.p3_cells.specs.Cells.{limit, used, is_sound}
@@ -36,7 +36,7 @@ module _ (t : Bool) (c : Composition) (w : Outcome) (d : w ≡ draft_if t c) (v 
     refused : w ≡ refuses Unsound
     refused = d ∙ rw (← e, not-true v q) refl
 
-    unsound_told : (n : ℕ) → Refused Unsound ≡ answer w n
+    unsound_told : (n : ℕ) → Err Unsound ≡ answer w n
     unsound_told n = refuses_answer w Unsound refused n
 
     unsound_kept : (o : List ℕ) → o ≡ output w o
@@ -55,14 +55,14 @@ module _ (t : Bool) (c : Composition) (w : Outcome) (d : w ≡ draft_if t c) (v 
     long : length (draft_of c) ≡ draft_length n
     long = draft_length_lem c n count
 
-    short_told : length o < draft_length n → Refused Short ≡ answer w (length o)
+    short_told : length o < draft_length n → Err Short ≡ answer w (length o)
     short_told h = short_answer w (draft_of c) written (length o) (omega (arith, long))
 
     short_kept : length o < draft_length n → o ≡ output w o
     short_kept h = short_output w (draft_of c) written o (omega (arith, long))
 
     module _ (h : draft_length n ≤ length o) where
-      written_told : Done (draft_length n) ≡ answer w (length o)
+      written_told : Ok (draft_length n) ≡ answer w (length o)
       written_told = writes_answer w (draft_of c) written (length o) _ (omega (arith, long)) (sym long)
 
       written_out : (b1 b2 new : List ℕ) (m k u : ℕ) → m ≡ method_byte c.settings.method → k ≡ mode_byte c.settings.mode
@@ -79,7 +79,7 @@ unfolding draft_outcome
 value_is c = refl
 
 module _ (c : Composition) (v : Bool) (e : v ≡ is_sound c) where
-  pub value_unsound : not v ≡ true → (n : ℕ) → Refused Unsound ≡ answer (draft_outcome c) n
+  pub value_unsound : not v ≡ true → (n : ℕ) → Err Unsound ≡ answer (draft_outcome c) n
   value_unsound = unsound_told (is_sound c) c (draft_outcome c) (value_is c) v e
 
   pub value_unsound_out : not v ≡ true → (o : List ℕ) → o ≡ output (draft_outcome c) o
@@ -96,13 +96,13 @@ module _ (c : Composition) (v : Bool) (e : v ≡ is_sound c) where
     value_length = omega (arith, value_few)
 
     module _ (o : List ℕ) where
-      pub value_short : length o < draft_length c.count → Refused Short ≡ answer (draft_outcome c) (length o)
+      pub value_short : length o < draft_length c.count → Err Short ≡ answer (draft_outcome c) (length o)
       value_short = short_told (is_sound c) c (draft_outcome c) (value_is c) v e (λ s. s) q c.count refl o
 
       pub value_short_out : length o < draft_length c.count → o ≡ output (draft_outcome c) o
       value_short_out = short_kept (is_sound c) c (draft_outcome c) (value_is c) v e (λ s. s) q c.count refl o
 
-      pub value_told : draft_length c.count ≤ length o → Done (draft_length c.count) ≡ answer (draft_outcome c) (length o)
+      pub value_told : draft_length c.count ≤ length o → Ok (draft_length c.count) ≡ answer (draft_outcome c) (length o)
       value_told = written_told (is_sound c) c (draft_outcome c) (value_is c) v e (λ s. s) q c.count refl o
 
       pub value_out : draft_length c.count ≤ length o
@@ -126,7 +126,7 @@ bytes_is b = go (bytes_sound b) refl
     go false e = refl
 
 module _ (b : List ℕ) (v : Bool) (e : v ≡ bytes_sound b) where
-  pub bytes_unsound : not v ≡ true → (n : ℕ) → Refused Unsound ≡ answer (bytes_outcome b) n
+  pub bytes_unsound : not v ≡ true → (n : ℕ) → Err Unsound ≡ answer (bytes_outcome b) n
   bytes_unsound = unsound_told (bytes_sound b) (composition_of b) (bytes_outcome b) (bytes_is b) v e
 
   pub bytes_unsound_out : not v ≡ true → (o : List ℕ) → o ≡ output (bytes_outcome b) o
@@ -153,13 +153,13 @@ module _ (b : List ℕ) (v : Bool) (e : v ≡ bytes_sound b) where
       bytes_length = omega (arith, bytes_few)
 
       module _ (o : List ℕ) where
-        pub bytes_short : length o < draft_length n → Refused Short ≡ answer (bytes_outcome b) (length o)
+        pub bytes_short : length o < draft_length n → Err Short ≡ answer (bytes_outcome b) (length o)
         bytes_short = short_told (bytes_sound b) (composition_of b) (bytes_outcome b) (bytes_is b) v e (sound_composition b) q n p o
 
         pub bytes_short_out : length o < draft_length n → o ≡ output (bytes_outcome b) o
         bytes_short_out = short_kept (bytes_sound b) (composition_of b) (bytes_outcome b) (bytes_is b) v e (sound_composition b) q n p o
 
-        pub bytes_told : draft_length n ≤ length o → Done (draft_length n) ≡ answer (bytes_outcome b) (length o)
+        pub bytes_told : draft_length n ≤ length o → Ok (draft_length n) ≡ answer (bytes_outcome b) (length o)
         bytes_told = written_told (bytes_sound b) (composition_of b) (bytes_outcome b) (bytes_is b) v e (sound_composition b) q n p o
 
         -- each setting is a byte of its own

@@ -1,9 +1,8 @@
 -- Document 02, request 2026-02, drafts: what the two calls answer and leave. "Refusals: 11 after 10 and before 3".
-use Rattle.std.specs.Prelude.{ℕ, List, eqb, length}
+use Rattle.p0_refusals.specs.declared.Refusal.{Refusal}
+use Rattle.std.specs.Prelude.{ℕ, List, eqb, length, Err, Ok, Result}
 use Rattle.p0_choice.specs.Choice.{pick}
 use Rattle.p0_refusals.specs.Answers.{Outcome, writes, refuses, unless}
-use Rattle.p0_refusals.specs.declared.Answer.{Answer}
-use Rattle.p0_refusals.specs.declared.Answer.TheVariants.{Done, Refused}
 use Rattle.p0_refusals.specs.declared.Refusal.TheVariants.{Unsound, NoDraft}
 use Rattle.p3_cells.specs.Cells.{is_sound}
 use Rattle.p3_cells.specs.declared.After.{After}
@@ -20,9 +19,9 @@ unfoldable pub bytes_outcome : List ℕ → Outcome
 bytes_outcome b = pick (bytes_sound b) (draft_outcome (composition_of b)) (refuses Unsound)
 
 -- ---- reading: 11 where the bytes are no draft
-abbrev pub read_answer : Reading → Answer
-read_answer (gives d) = Done 0
-read_answer none = Refused NoDraft
+abbrev pub read_answer : Reading → Result ℕ Refusal
+read_answer (gives d) = Ok 0
+read_answer none = Err NoDraft
 
 -- "A refusal returns its number; the composition .. [stays] as [it was]": c before
 abbrev pub read_leaves : Reading → Composition → Composition
@@ -33,8 +32,8 @@ unfoldable pub read_to : Reading → Composition → After
 read_to u c = record { comp = read_leaves u c; answer = read_answer u }
 
 -- over bytes that may be any: 10 where they are not as many as a composition has, then 11
-unfoldable pub read_on : Reading → List ℕ → Answer
-read_on u b = pick (eqb (length b) size) (read_to u (composition_of b)).answer (Refused Unsound)
+unfoldable pub read_on : Reading → List ℕ → Result ℕ Refusal
+read_on u b = pick (eqb (length b) size) (read_to u (composition_of b)).answer (Err Unsound)
 
 unfoldable pub read_bytes : Reading → List ℕ → List ℕ
 read_bytes u b = unless (read_on u b) b (bytes_of (read_to u (composition_of b)).comp)

@@ -7,7 +7,7 @@ ghost use Rattle.p6_draft.specs.Draft.{draft_cells, Reading, Means};
 ghost use Rattle.p6_draft.specs.Mirror.{draft_head, draft_start, put_at, draft_composition, is_draft};
 ghost use Rattle.p6_draft_calls.specs.Calls.{draft_outcome, read_to};
 
-use p0_refusals::{Answer, Refusal};
+use p0_refusals::{Refusal};
 use p2_input_method::InputMethod;
 use p3_cells as cells;
 use p3_cells::{After, Composition, Mode};
@@ -46,17 +46,17 @@ fn put_cells(c: Composition, draft: &mut [u8])
 }
 
 // The draft of a composition, from the start of an output. Refusals: 10, then 3; the output then stays as it was.
-pub fn write(c: Composition, draft: &mut [u8]) -> Answer
+pub fn write(c: Composition, draft: &mut [u8]) -> Result<usize, Refusal>
     ensures value { result ≡ answer (draft_outcome c) (length draft.old) }
     ensures draft_after { draft.new ≡ output (draft_outcome c) draft.old }
 {
     if !cells::sound(c) {
-        return Answer::Refused(Refusal::Unsound);
+        return Err(Refusal::Unsound);
     }
     let n = c.count;
     let m = form::FRAME + form::CELL * n;
     if draft.len() < m {
-        return Answer::Refused(Refusal::Short);
+        return Err(Refusal::Short);
     }
     let z = c.settings;
     let method = z.method;
@@ -64,7 +64,7 @@ pub fn write(c: Composition, draft: &mut [u8]) -> Answer
     form::put_head(draft, method_byte(method), mode_byte(mode), n);
     put_cells(c, draft);
     form::put_tail(draft, bytes::flag_byte(z.capitals), n);
-    Answer::Done(m)
+    Ok(m)
 }
 
 // The composition of a draft.
@@ -92,12 +92,12 @@ pub fn read(c: Composition, draft: &[u8]) -> After
     if !form::is_draft(draft) {
         return After {
             comp: c,
-            answer: Answer::Refused(Refusal::NoDraft),
+            answer: Err(Refusal::NoDraft),
         };
     }
     let d = composition(draft);
     After {
         comp: d,
-        answer: Answer::Done(0),
+        answer: Ok(0),
     }
 }

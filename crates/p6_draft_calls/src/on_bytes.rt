@@ -8,7 +8,7 @@ ghost use Rattle.p6_draft.specs.Draft.{draft_cells, Reading, Means};
 ghost use Rattle.p6_draft.specs.Mirror.{draft_head, draft_start, put_at, draft_composition, is_draft};
 ghost use Rattle.p6_draft_calls.specs.Calls.{bytes_outcome, read_on, read_bytes};
 
-use p0_refusals::{Answer, Refusal};
+use p0_refusals::{Refusal};
 use p6_bytes as bytes;
 use p6_draft as form;
 use p6_zeros as zeros;
@@ -28,12 +28,12 @@ fn put_cells_on(b: &[u8], n: usize, draft: &mut [u8])
 }
 
 // The draft of a composition, from the start of an output. Refusals: 10, then 3; the output then stays as it was.
-pub fn write_on(state: &[u8], draft: &mut [u8]) -> Answer
+pub fn write_on(state: &[u8], draft: &mut [u8]) -> Result<usize, Refusal>
     ensures value { result ≡ answer (bytes_outcome state.now) (length draft.old) }
     ensures draft_after { draft.new ≡ output (bytes_outcome state.now) draft.old }
 {
     if !bytes::bytes_ok(state) {
-        return Answer::Refused(Refusal::Unsound);
+        return Err(Refusal::Unsound);
     }
     let method = state[0];
     let mode = state[1];
@@ -41,12 +41,12 @@ pub fn write_on(state: &[u8], draft: &mut [u8]) -> Answer
     let n = bytes::cell_count(state);
     let m = form::FRAME + form::CELL * n;
     if draft.len() < m {
-        return Answer::Refused(Refusal::Short);
+        return Err(Refusal::Short);
     }
     form::put_head(draft, method, mode, n);
     put_cells_on(state, n, draft);
     form::put_tail(draft, capitals, n);
-    Answer::Done(m)
+    Ok(m)
 }
 
 // The composition of a draft, over whatever stands in `state`.
@@ -70,16 +70,16 @@ fn fill_on(draft: &[u8], state: &mut [u8])
 
 // The composition that the bytes are the draft of. Refusals: 10 where `state` has another length, then 11 where they are none. What
 // stood in `state` is not looked at.
-pub fn read_on(draft: &[u8], state: &mut [u8]) -> Answer
+pub fn read_on(draft: &[u8], state: &mut [u8]) -> Result<usize, Refusal>
     ensures { (u : Reading) × Means draft.now u × (result ≡ read_on u state.old)
         × (state.new ≡ read_bytes u state.old) }
 {
     if state.len() != bytes::SIZE {
-        return Answer::Refused(Refusal::Unsound);
+        return Err(Refusal::Unsound);
     }
     if !form::is_draft(draft) {
-        return Answer::Refused(Refusal::NoDraft);
+        return Err(Refusal::NoDraft);
     }
     fill_on(draft, state);
-    Answer::Done(0)
+    Ok(0)
 }

@@ -1,11 +1,11 @@
 -- Request 2026-05 over what the calls answer and leave: "Drafts of at most 32 cells keep their old bytes and read on old panels; a
 -- longer draft is one that an old reader refuses by 11."
+use Rattle.std.specs.Prelude.{Err, Ok}
 use Prim.Native.Nat.{ℕ, ◌≤◌, ◌<◌}
 use mathlib.Core.Path.{◌≡◌, refl, ◌∙◌}
 use mathlib.Core.Bool.{true}
 use native.Mathlib.Omega.{arith}
 use Rattle.p0_refusals.specs.Answers.{refusal_of}
-use Rattle.p0_refusals.specs.declared.Answer.TheVariants.{Done, Refused}
 use Rattle.p0_refusals.specs.declared.Refusal.TheVariants.{NoDraft}
 use Rattle.p3_cells.specs.Cells.{limit, is_sound}
 use Rattle.p3_cells.specs.declared.Composition.{Composition}
@@ -26,11 +26,11 @@ same_bytes m c s k = (sound_with limit c (sound_now c ∙ s) m k, draft_within m
 module _ (m : ℕ) (h : m ≤ limit) (c : Composition) (s : is_sound c ≡ true) where
   -- u is what it reads, d the composition that it had
   module _ (u : Reading) (t : MeansWithin m (draft_of c) u) (d : Composition) where
-    pub fewer_read : c.count ≤ m → read_to u d ≡ record { comp = within m c; answer = Done 0 }
+    pub fewer_read : c.count ≤ m → read_to u d ≡ record { comp = within m c; answer = Ok 0 }
     unfolding read_to
     fewer_read k = rw (read_within_only m h (draft_of c) (gives c) u (s, refl) t, ← has_room m c k) refl
 
-    pub more_refused : m < c.count → read_to u d ≡ record { comp = d; answer = Refused NoDraft }
+    pub more_refused : m < c.count → read_to u d ≡ record { comp = d; answer = Err NoDraft }
     unfolding read_to
     more_refused k = rw (read_within_only m h (draft_of c) (gives c) u (s, refl) t, ← no_room m c k) refl
 
@@ -51,7 +51,7 @@ module _ (c : Composition) (s : is_sound c ≡ true) where
 
   module _ (u : Reading) (t : MeansWithin limit_before (draft_of c) u) (d : Composition) where
     -- "and read on old panels"
-    pub old_panel_reads : c.count ≤ limit_before → read_to u d ≡ record { comp = within limit_before c; answer = Done 0 }
+    pub old_panel_reads : c.count ≤ limit_before → read_to u d ≡ record { comp = within limit_before c; answer = Ok 0 }
     old_panel_reads = fewer_read limit_before (omega arith) c s u t d
 
     -- "a longer draft is one that an old reader refuses by 11"

@@ -2,6 +2,8 @@
 -- it out of src/. Wherever the number returned is not 0, every lent place ends as it began, count and yes places too.
 -- `pasdrongel_composition_bytes` alone has no law here: it is lent nothing, and returns no refusal. `pasdrongel_line_part` is "the one
 -- exception to demand 1": its state records refusals 1 and 6, and its law is of refusal 10.
+use Rattle.std.specs.Prelude.{Result}
+use Rattle.p0_refusals.specs.declared.Refusal.{Refusal}
 use Prim.Native.Nat.{ℕ}
 use mathlib.Core.Path.{◌≡◌, refl, sym, ◌∙◌}
 use mathlib.Core.List.{List}
@@ -14,7 +16,6 @@ use denote.Triple.Clauses.{Lasts, AtExit, at_exit}
 use borrow.Fn.Kinds.{ParamKind, Out, Dens, ended_of, r_num}
 use Rattle.p0_refusals.specs.Answers.{Outcome, refusal_of, answer, output}
 use Rattle.p0_refusals.specs.Refusals.{number_of}
-use Rattle.p0_refusals.specs.declared.Answer.{Answer}
 use Rattle.p0_refusals.specs.declared.Refusal.TheVariants.{Unsound}
 use Rattle.p3_cells.specs.declared.After.{After}
 use Rattle.p4_note_line.specs.Line.{line_answer, checked_number}
@@ -159,7 +160,7 @@ pub line_answer_keeps : Keeps lines.pasdrongel_line_answer.Kinds.ps lines.pasdro
 line_answer_keeps κs a z w q h = lent_counts a.0 a.1.0 a.1.1.0 a.1.1.1.0 (line_answer_on a.0.now) q h
 
 -- ---- an output and a count: g is the answer, and the output ends as u
-module _ (o : MutBor (List ℕ)) (c : MutBor ℕ) (g : Answer) {z v : ℕ} {w u : List ℕ} (k : (refusal_of g ≡ 0 → ⊥) → u ≡ o.now)
+module _ (o : MutBor (List ℕ)) (c : MutBor ℕ) (g : Result ℕ Refusal) {z v : ℕ} {w u : List ℕ} (k : (refusal_of g ≡ 0 → ⊥) → u ≡ o.now)
     (q : (z ≡ refusal_of g) × ((w ≡ u) × (v ≡ count_out g c.now))) (h : z ≡ 0 → ⊥) where
   output_and_count : ◌≡◌ {A = MutBor (List ℕ) × (MutBor ℕ × Unit {0})} (at_last o w, (at_last c v, tt)) (o, (c, tt))
   output_and_count = lent o k (q.0, q.1.0) h (lent c (count_kept g c.now) (q.0, q.1.1) h refl)

@@ -1,6 +1,8 @@
 -- Request 2026-02 over the two calls' own contracts, as Rattle reads them out of src/: "Reading gives back the composition written",
 -- "each sound composition has one form only", whatever is read is written back as the same bytes, and 11 "exactly when the bytes are no
 -- such form of a sound composition". A byte is below 256: the lists of specs/ may have any numbers, so that it is a premise.
+use Rattle.std.specs.Prelude.{Err, Ok, Result}
+use Rattle.p0_refusals.specs.declared.Refusal.{Refusal}
 use Prim.Native.Nat.{ℕ, ◌≤◌, ◌<◌}
 use mathlib.Core.Path.{◌≡◌, refl, sym, ap, ◌∙◌}
 use mathlib.Core.Bool.{Bool, true, false}
@@ -12,8 +14,6 @@ use lib.Seq.{take-append_seam}
 use borrow.Author.Tests.{eq-eqb, ne_eqb, le-ltb}
 use Rattle.p0_choice.specs.Choice.{pick}
 use Rattle.p0_refusals.specs.Answers.{writes, refuses, refusal_of, content, answer, unless, output}
-use Rattle.p0_refusals.specs.declared.Answer.{Answer}
-use Rattle.p0_refusals.specs.declared.Answer.TheVariants.{Done, Refused}
 use Rattle.p0_refusals.specs.declared.Refusal.TheVariants.{Short, Unsound}
 use Rattle.p3_cells.specs.Cells.{is_sound}
 use Rattle.p3_cells.specs.declared.Composition.{Composition}
@@ -67,8 +67,8 @@ written_is b o out z n old d e f g =
     go (bytes_sound b) refl (rw (bytes_is b) at (sym e ∙ d)) (rw (bytes_is b) at f) (rw (bytes_is b) at g)
   where
     full : (c : Composition) (t : Bool)
-        → refusal_of (pick t (Refused Short) (Done (length (draft_of c)))) ≡ 0
-        → (s : Answer) → s ≡ pick t (Refused Short) (Done (length (draft_of c))) → s ≡ Done (length (draft_of c))
+        → refusal_of (pick t (Err Short) (Ok (length (draft_of c)))) ≡ 0
+        → (s : Result ℕ Refusal) → s ≡ pick t (Err Short) (Ok (length (draft_of c))) → s ≡ Ok (length (draft_of c))
     full c true h s p = let y : ◌≡◌ {A = ℕ} 3 0 = h in absurd (omega arith)
     full c false h s p = p
 
@@ -112,7 +112,7 @@ module _ (w : Written) (d : w.number ≡ 0) where
   -- by 11": u is what an old panel reads, and b the composition that it had
   module _ (u : Reading) (t : MeansWithin limit_before (draft_in w) u) (b : Composition) where
     pub drafts_read_before : (composition_of (state_of w)).count ≤ limit_before
-        → read_to u b ≡ record { comp = within limit_before (composition_of (state_of w)); answer = Done 0 }
+        → read_to u b ≡ record { comp = within limit_before (composition_of (state_of w)); answer = Ok 0 }
     drafts_read_before =
         old_panel_reads (composition_of (state_of w)) (sound_composition (state_of w) facts.0) u (rw facts.1 at t) b
 
@@ -157,8 +157,8 @@ reads : (b old new : List ℕ) (u : Reading) → Means b u → refusal_of (read_
 unfolding read_on read_bytes read_to
 reads b old new u m h e = go (eqb (length old) size) u m h e
   where
-    go : (t : Bool) (v : Reading) → Means b v → refusal_of (pick t (read_answer v) (Refused Unsound)) ≡ 0
-        → new ≡ unless (pick t (read_answer v) (Refused Unsound)) old (bytes_of (read_leaves v (composition_of old)))
+    go : (t : Bool) (v : Reading) → Means b v → refusal_of (pick t (read_answer v) (Err Unsound)) ≡ 0
+        → new ≡ unless (pick t (read_answer v) (Err Unsound)) old (bytes_of (read_leaves v (composition_of old)))
         → (c : Composition) × (is_sound c ≡ true) × (draft_of c ≡ b) × (new ≡ bytes_of c)
     go true (gives c) n k f = (c, n.0, n.1, f)
     go true none n k f = let y : ◌≡◌ {A = ℕ} 11 0 = k in absurd (omega arith)

@@ -1,6 +1,7 @@
 -- Request 2026-04 over the four calls' own contracts: "A second form takes the line cut anywhere and answers the same as the whole line
 -- does", "later calls repeat it until a new line is begun", "every state handed out meets" the soundness, and "refusal 10 leaves the
 -- state too as it was".
+use Rattle.std.specs.Prelude.{Err, Ok}
 use Prim.Native.Nat.{ℕ}
 use mathlib.Core.Path.{◌≡◌, refl, sym, ap, ◌∙◌}
 use mathlib.Core.Bool.{Bool, true, false}
@@ -12,7 +13,6 @@ use borrow.Author.Tests.{eqb-true}
 use Rattle.p0_choice.specs.Choice.{pick}
 use Rattle.p0_refusals.specs.Answers.{refusal_of}
 use Rattle.p0_refusals.specs.Refusals.{number_of}
-use Rattle.p0_refusals.specs.declared.Answer.TheVariants.{Done, Refused}
 use Rattle.p0_refusals.specs.declared.Refusal.{Refusal}
 use Rattle.p0_refusals.specs.declared.Refusal.TheVariants as Refusals
 use Rattle.p4_note_line.specs.Line.{line_answer, checked_number}
@@ -88,7 +88,7 @@ begin_spelt b z =
     old : List ℕ
     old = b.handed.0.now
 
-    go : (t : Bool) → refusal_of (pick t (Done 0) (Refused Refusals.Unsound)) ≡ 0 → t ≡ true
+    go : (t : Bool) → refusal_of (pick t (Ok 0) (Err Refusals.Unsound)) ≡ 0 → t ≡ true
     go true h = refl
     go false h = let y : ◌≡◌ {A = ℕ} 10 0 = h in absurd (omega arith)
 
@@ -208,14 +208,14 @@ module _ (p : Part) (some : p.number ≡ 0 → ⊥) (known : p.number ≡ 10 →
   left_spelt : Spell (after p) left
   left_spelt = part_spelt p (line_of (before p)) (spelt p sound_before)
 
-  left_stands : (r : Refusal) × (standing_answer left.standing ≡ Refused r) × (p.number ≡ number_of r)
+  left_stands : (r : Refusal) × (standing_answer left.standing ≡ Err r) × (p.number ≡ number_of r)
   left_stands = go (part_taken (line_of (before p)) (letters_in p)).standing refl (stands p sound_before)
     where
       here : left.standing ≡ (part_taken (line_of (before p)) (letters_in p)).standing
       here = ap (λ t. t.line.standing) (by_value p (line_of (before p)) (spelt p sound_before))
 
       go : (t : Standing) → (part_taken (line_of (before p)) (letters_in p)).standing ≡ t → p.number ≡ refusal_of (standing_answer t)
-          → (r : Refusal) × (standing_answer left.standing ≡ Refused r) × (p.number ≡ number_of r)
+          → (r : Refusal) × (standing_answer left.standing ≡ Err r) × (p.number ≡ number_of r)
       go Standings.Going e k = absurd (some k)
       go Standings.Foreign e k = (Refusals.Foreign, ap standing_answer (here ∙ e), k)
       go Standings.Long e k = (Refusals.Long, ap standing_answer (here ∙ e), k)

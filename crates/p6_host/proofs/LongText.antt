@@ -1,5 +1,7 @@
 -- Request 2026-05 over the two calls' own contracts, as Rattle reads them out of src/: "The word limit stays at 64, so the verdict of a
 -- longer text is refusal 6".
+use Rattle.std.specs.Prelude.{Err, Ok, Result}
+use Rattle.p0_refusals.specs.declared.Refusal.{Refusal}
 use Prim.Native.Nat.{ℕ, ◌<◌}
 use mathlib.Core.Path.{◌≡◌, refl, sym, ap, ◌∙◌}
 use mathlib.Core.Bool.{Bool, true, false}
@@ -11,8 +13,6 @@ use lib.Seq.{take-append_seam}
 use Rattle.p0_choice.specs.Choice.{pick}
 use Rattle.p0_refusals.specs.Answers.{writes, refusal_of, content, answer, output}
 use Rattle.p0_refusals.specs.Limits.{letter_limit}
-use Rattle.p0_refusals.specs.declared.Answer.{Answer}
-use Rattle.p0_refusals.specs.declared.Answer.TheVariants.{Done, Refused}
 use Rattle.p0_refusals.specs.declared.Refusal.TheVariants.{Short, Unsound}
 use Rattle.p3_calls.specs.Output.{text_outcome}
 use Rattle.p3_cells.specs.Cells.{used}
@@ -49,8 +49,8 @@ module _ (b o out : List ℕ) (z n old : ℕ) (d : z ≡ 0) where
   abbrev whole : List ℕ
   whole = text_of (composition_of b).settings.capitals (used (composition_of b))
 
-  full : (t : Bool) → refusal_of (pick t (Refused Short) (Done (length whole))) ≡ 0
-      → (s : Answer) → s ≡ pick t (Refused Short) (Done (length whole)) → s ≡ Done (length whole)
+  full : (t : Bool) → refusal_of (pick t (Err Short) (Ok (length whole))) ≡ 0
+      → (s : Result ℕ Refusal) → s ≡ pick t (Err Short) (Ok (length whole)) → s ≡ Ok (length whole)
   full true h s p = let y : ◌≡◌ {A = ℕ} 3 0 = h in absurd (omega arith)
   full false h s p = p
 
@@ -59,9 +59,9 @@ module _ (b o out : List ℕ) (z n old : ℕ) (d : z ≡ 0) where
   unfolding text_on out_on text_outcome answer output content
   shown_is e f g = go (bytes_sound b) refl (sym e ∙ d) f g
     where
-      go : (t : Bool) → bytes_sound b ≡ t → refusal_of (pick t (answer (text_outcome (composition_of b)) (length o)) (Refused Unsound)) ≡ 0
+      go : (t : Bool) → bytes_sound b ≡ t → refusal_of (pick t (answer (text_outcome (composition_of b)) (length o)) (Err Unsound)) ≡ 0
           → out ≡ pick t (output (text_outcome (composition_of b)) o) o
-          → n ≡ count_out (pick t (answer (text_outcome (composition_of b)) (length o)) (Refused Unsound)) old
+          → n ≡ count_out (pick t (answer (text_outcome (composition_of b)) (length o)) (Err Unsound)) old
           → length (take n out) ≡ (composition_of b).count
       go true p h x y =
           let c = composition_of b in

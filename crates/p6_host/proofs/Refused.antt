@@ -1,4 +1,6 @@
 -- After a refusal, whose number is not 0, what a definition gives is what stood in the lent place.
+use Rattle.std.specs.Prelude.{Err, Ok, Result}
+use Rattle.p0_refusals.specs.declared.Refusal.{Refusal}
 use Prim.Native.Nat.{ℕ}
 use mathlib.Core.Path.{◌≡◌, refl}
 use mathlib.Core.Bool.{Bool, true, false}
@@ -9,8 +11,6 @@ use lib.ListN.{length}
 use Rattle.p0_choice.specs.Choice.{pick}
 use Rattle.p0_refusals.specs.Refusals.{number_of}
 use Rattle.p0_refusals.specs.Answers.{Outcome, refusal_of, content, answer, unless, onto, output}
-use Rattle.p0_refusals.specs.declared.Answer.{Answer}
-use Rattle.p0_refusals.specs.declared.Answer.TheVariants.{Done, Refused}
 use Rattle.p0_refusals.specs.declared.Refusal.TheVariants.{Foreign, Unsound}
 use Rattle.p1_letters.specs.Alphabet.{in_alphabet}
 use Rattle.p3_calls.specs.Output.{text_outcome, removal_outcome, removed}
@@ -89,7 +89,7 @@ pub begin_kept : (b : List ℕ) → (refusal_of (line_begin_on b) ≡ 0 → ⊥)
 unfolding line_begin_on line_begin_bytes
 begin_kept b h = go (eqb (length b) line_size) h
   where
-    go : (t : Bool) → (refusal_of (pick t (Done 0) (Refused Unsound)) ≡ 0 → ⊥) → pick t (line_bytes begun) b ≡ b
+    go : (t : Bool) → (refusal_of (pick t (Ok 0) (Err Unsound)) ≡ 0 → ⊥) → pick t (line_bytes begun) b ≡ b
     go true k = absurd (k refl)
     go false k = refl
 
@@ -103,7 +103,7 @@ part_kept b xs h = go (line_bytes_sound b) refl h
     never Standings.Foreign k = absurd (omega (arith, k))
     never Standings.Long k = absurd (omega (arith, k))
 
-    go : (t : Bool) → line_bytes_sound b ≡ t → refusal_of (pick t (part_after (line_of b) xs).answer (Refused Unsound)) ≡ number_of Unsound
+    go : (t : Bool) → line_bytes_sound b ≡ t → refusal_of (pick t (part_after (line_of b) xs).answer (Err Unsound)) ≡ number_of Unsound
         → (t ≡ false) × (pick t (line_bytes (part_after (line_of b) xs).line) b ≡ b)
     go true e k = absurd (never (part_taken (line_of b) xs).standing (rw (sound_answer (line_of b) (bytes_line b e) xs) at k))
     go false e k = (refl, refl)
@@ -122,17 +122,17 @@ module _ (old : ℕ) where
   first_kept (Checks.Refused r) h = refl
 
 -- ---- what every other call answers
-unless_kept : {A : Type 0} (g : Answer) (old new : A) → (refusal_of g ≡ 0 → ⊥) → unless g old new ≡ old
-unless_kept (Done n) old new h = absurd (h refl)
-unless_kept (Refused r) old new h = refl
+unless_kept : {A : Type 0} (g : Result ℕ Refusal) (old new : A) → (refusal_of g ≡ 0 → ⊥) → unless g old new ≡ old
+unless_kept (Ok n) old new h = absurd (h refl)
+unless_kept (Err r) old new h = refl
 
-pub count_kept : (g : Answer) (old : ℕ) → (refusal_of g ≡ 0 → ⊥) → count_out g old ≡ old
-count_kept (Done n) old h = absurd (h refl)
-count_kept (Refused r) old h = refl
+pub count_kept : (g : Result ℕ Refusal) (old : ℕ) → (refusal_of g ≡ 0 → ⊥) → count_out g old ≡ old
+count_kept (Ok n) old h = absurd (h refl)
+count_kept (Err r) old h = refl
 
-pub behaviour_kept : (g : Answer) (old : ℕ) → (refusal_of g ≡ 0 → ⊥) → behaviour_out g old ≡ old
-behaviour_kept (Done n) old h = absurd (h refl)
-behaviour_kept (Refused r) old h = refl
+pub behaviour_kept : (g : Result ℕ Refusal) (old : ℕ) → (refusal_of g ≡ 0 → ⊥) → behaviour_out g old ≡ old
+behaviour_kept (Ok n) old h = absurd (h refl)
+behaviour_kept (Err r) old h = refl
 
 pub output_kept : (u : Outcome) (o : List ℕ) → (refusal_of (answer u (length o)) ≡ 0 → ⊥) → output u o ≡ o
 unfolding output
@@ -147,7 +147,7 @@ pub new_kept : (b : List ℕ) (m : ℕ) → (refusal_of (new_on b m) ≡ 0 → �
 unfolding new_bytes
 new_kept b m h = unless_kept (new_on b m) b _ h
 
-out_kept : (v : Bool) (u : Outcome) (o : List ℕ) → (refusal_of (pick v (answer u (length o)) (Refused Unsound)) ≡ 0 → ⊥)
+out_kept : (v : Bool) (u : Outcome) (o : List ℕ) → (refusal_of (pick v (answer u (length o)) (Err Unsound)) ≡ 0 → ⊥)
     → pick v (output u o) o ≡ o
 out_kept true u o h = output_kept u o h
 out_kept false u o h = refl

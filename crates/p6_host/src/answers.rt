@@ -3,27 +3,28 @@ ghost use Rattle.std.specs.Prelude.{◌≡◌};
 ghost use Rattle.p0_refusals.specs.Answers.{refusal_of};
 ghost use Rattle.p6_host.specs.Counts.{count_out, behaviour_out};
 
-use p0_refusals::{Answer, number};
+use p0_refusals::Refusal;
+use p0_refusals::{number};
 
 // The number of a refusal, or 0, and how much was done.
-pub fn tell(given: Answer, count: &mut usize) -> u32
+pub fn tell(given: Result<usize, Refusal>, count: &mut usize) -> u32
     ensures { (result ≡ refusal_of given) × (count.new ≡ count_out given count.old) }
 {
     match given {
-        Answer::Done(n) => {
+        Ok(n) => {
             *count = n;
             0
         }
-        Answer::Refused(refusal) => number(refusal),
+        Err(refusal) => u32::from(refusal),
     }
 }
 
 // The same of an undo: 0 for append, 1 for consume.
-pub fn tell_behaviour(given: Answer, behaviour: &mut u32) -> u32
+pub fn tell_behaviour(given: Result<usize, Refusal>, behaviour: &mut u32) -> u32
     ensures { (result ≡ refusal_of given) × (behaviour.new ≡ behaviour_out given behaviour.old) }
 {
     match given {
-        Answer::Done(n) => {
+        Ok(n) => {
             if n == 0 {
                 *behaviour = 0;
                 return 0;
@@ -31,6 +32,6 @@ pub fn tell_behaviour(given: Answer, behaviour: &mut u32) -> u32
             *behaviour = 1;
             0
         }
-        Answer::Refused(refusal) => number(refusal),
+        Err(refusal) => u32::from(refusal),
     }
 }

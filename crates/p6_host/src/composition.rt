@@ -10,7 +10,7 @@ ghost use Rattle.p6_host.specs.Counts.{count_out, behaviour_out};
 ghost use Rattle.p6_host.specs.CompositionCalls.{sound_code, sound_out};
 
 use crate::answers::{tell, tell_behaviour};
-use p0_refusals::{Refusal, number, refusal_of};
+use p0_refusals::{Refusal, refusal_of};
 
 // How many bytes a composition takes: this is returned, and nothing is refused.
 #[unsafe(no_mangle)]
@@ -36,7 +36,7 @@ pub extern "C" fn pasdrongel_check_composition(state: &[u8]) -> u32
     if p6_bytes::bytes_ok(state) {
         return 0;
     }
-    number(Refusal::Unsound)
+    u32::from(Refusal::Unsound)
 }
 
 #[unsafe(no_mangle)]
@@ -46,7 +46,7 @@ pub extern "C" fn pasdrongel_method(state: &[u8], method: &mut u32) -> u32
         method.old) }
 {
     if !p6_bytes::bytes_ok(state) {
-        return number(Refusal::Unsound);
+        return u32::from(Refusal::Unsound);
     }
     *method = p6_bytes::method_number(state);
     0
@@ -59,7 +59,7 @@ pub extern "C" fn pasdrongel_mode(state: &[u8], mode: &mut u32) -> u32
         mode.old) }
 {
     if !p6_bytes::bytes_ok(state) {
-        return number(Refusal::Unsound);
+        return u32::from(Refusal::Unsound);
     }
     *mode = p6_bytes::mode_number(state);
     0
@@ -72,7 +72,7 @@ pub extern "C" fn pasdrongel_capitals(state: &[u8], on: &mut u32) -> u32
         on.old) }
 {
     if !p6_bytes::bytes_ok(state) {
-        return number(Refusal::Unsound);
+        return u32::from(Refusal::Unsound);
     }
     *on = p6_bytes::capitals_number(state);
     0
@@ -84,7 +84,7 @@ pub extern "C" fn pasdrongel_count(state: &[u8], count: &mut usize) -> u32
         × (count.new ≡ sound_out state.now (composition_of state.now).count count.old) }
 {
     if !p6_bytes::bytes_ok(state) {
-        return number(Refusal::Unsound);
+        return u32::from(Refusal::Unsound);
     }
     *count = p6_bytes::cell_count(state);
     0

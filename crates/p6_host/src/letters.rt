@@ -5,7 +5,7 @@ ghost use Rattle.p1_letters.specs.Tones.{tone_on, tone_off};
 ghost use Rattle.p1_letters.specs.Vowels.{is_vowel, is_spelling_vowel};
 ghost use Rattle.p6_host.specs.LetterCalls.{letter_code, letter_out, tone_code, tone_out, flag_of};
 
-use p0_refusals::{Refusal, number};
+use p0_refusals::Refusal;
 
 // A yes or no, for C.
 pub fn flag(yes: bool) -> u32
@@ -24,7 +24,7 @@ pub extern "C" fn pasdrongel_check_letter(letter: u32) -> u32
     if p1_letters::in_alphabet(letter) {
         return 0;
     }
-    number(Refusal::Foreign)
+    u32::from(Refusal::Foreign)
 }
 
 // Writes an answer about a letter, unless the letter is foreign.
@@ -35,7 +35,7 @@ pub fn give(letter: u32, answer: u32, place: &mut u32) -> u32
         *place = answer;
         return 0;
     }
-    number(Refusal::Foreign)
+    u32::from(Refusal::Foreign)
 }
 
 #[unsafe(no_mangle)]
@@ -80,7 +80,7 @@ pub extern "C" fn pasdrongel_tone_on(letter: u32, tone: u32, toned: &mut u32) ->
     if p1_letters::in_alphabet(letter) {
         return give(tone, p1_letters::apply_tone_to_char(letter, tone), toned);
     }
-    number(Refusal::Foreign)
+    u32::from(Refusal::Foreign)
 }
 
 #[unsafe(no_mangle)]

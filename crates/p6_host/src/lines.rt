@@ -5,7 +5,7 @@ ghost use Rattle.p4_note_line.specs.Line.{line_answer, checked_number};
 ghost use Rattle.p6_note_bytes.specs.Calls.{line_begin_on, line_begin_bytes, line_part_on, line_part_bytes, line_answer_on};
 ghost use Rattle.p6_host.specs.LineCalls.{words_out, no_out, first_out};
 
-use p0_refusals::{number, refusal_of};
+use p0_refusals::refusal_of;
 use p4_note_line::Checked;
 
 // The numbers of a line's refusal and counts.
@@ -20,7 +20,7 @@ fn tell_checked(given: Checked, words: &mut usize, no: &mut usize, first: &mut u
             *first = counts.first;
             0
         }
-        Checked::Refused(refusal) => number(refusal),
+        Checked::Refused(refusal) => u32::from(refusal),
     }
 }
 

@@ -3,7 +3,6 @@ ghost use Rattle.std.specs.Prelude.{◌≡◌};
 ghost use Rattle.p4_spelling.specs.Answers.{cut_number, verdict_number, cut_answer, verdict_answer};
 ghost use Rattle.p6_host.specs.SpellerCalls.{onset_out, vowels_out, verdict_out};
 
-use p0_refusals::number;
 use p4_spelling::{Cut, Verdict};
 
 // The numbers of a cut's refusal and places.
@@ -17,7 +16,7 @@ fn tell_cut(given: Cut, onset: &mut usize, vowels: &mut usize) -> u32
             *vowels = places.vowels;
             0
         }
-        Cut::Refused(refusal) => number(refusal),
+        Cut::Refused(refusal) => u32::from(refusal),
     }
 }
 
@@ -33,7 +32,7 @@ fn tell_verdict(given: Verdict, yes: &mut u32) -> u32
             *yes = 0;
             0
         }
-        Verdict::Refused(refusal) => number(refusal),
+        Verdict::Refused(refusal) => u32::from(refusal),
     }
 }
 

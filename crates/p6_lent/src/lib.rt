@@ -9,11 +9,11 @@ ghost use Rattle.p3_calls.specs.Settings.{reset_to};
 ghost use Rattle.p3_key.specs.Process.{key_outcome, keyed};
 ghost use Rattle.p3_undo.specs.Call.{undo_telex};
 
-use p0_refusals::Answer;
+use p0_refusals::Refusal;
 use p3_cells::Composition;
 use p3_undo::TelexUndo;
 
-pub fn process_key(c: &mut Composition, key: u32, out: &mut [u32]) -> Answer
+pub fn process_key(c: &mut Composition, key: u32, out: &mut [u32]) -> Result<usize, Refusal>
     ensures { (c.new ≡ (keyed c.old key (length out.old)).comp)
         × (result ≡ (keyed c.old key (length out.old)).answer)
         × (out.new ≡ output (key_outcome c.old key) out.old) }
@@ -23,7 +23,7 @@ pub fn process_key(c: &mut Composition, key: u32, out: &mut [u32]) -> Answer
     k.answer
 }
 
-pub fn reset(c: &mut Composition) -> Answer
+pub fn reset(c: &mut Composition) -> Result<usize, Refusal>
     ensures { (c.new ≡ (reset_to c.old).comp) × (result ≡ (reset_to c.old).answer) }
 {
     let k = p3_calls::reset(*c);
@@ -31,7 +31,7 @@ pub fn reset(c: &mut Composition) -> Answer
     k.answer
 }
 
-pub fn pop_last(c: &mut Composition, out: &mut [u32]) -> Answer
+pub fn pop_last(c: &mut Composition, out: &mut [u32]) -> Result<usize, Refusal>
     ensures { (c.new ≡ (removed c.old (length out.old)).comp)
         × (result ≡ (removed c.old (length out.old)).answer)
         × (out.new ≡ output (removal_outcome c.old) out.old) }

@@ -1,4 +1,5 @@
 -- The calls: what each way through one of them answers and leaves.
+use Rattle.std.specs.Prelude.{Err}
 use Prim.Native.Nat.{ℕ, ◌-◌, ◌≤◌}
 use mathlib.Core.Path.{◌≡◌, refl, sym, ◌∙◌}
 use mathlib.Core.Bool.{Bool, true, false, not}
@@ -9,7 +10,6 @@ use borrow.Author.Tests.{not-true, not-false}
 use mir.Syntax.{w8}
 use mir.Val.{Fits}
 use Rattle.p0_choice.specs.Choice.{pick}
-use Rattle.p0_refusals.specs.declared.Answer.TheVariants.{Refused}
 use Rattle.p0_refusals.specs.declared.Refusal.TheVariants.{Unsound}
 use Rattle.p4_note_line.specs.declared.Checked.{Checked}
 use Rattle.p4_note_line.specs.declared.Checked.TheVariants as Checks
@@ -33,7 +33,7 @@ begin_put b new e l =
 
 -- ---- an unsound state by value is refused, and left as it was
 module _ (s : Line) (u : line_sound s ≡ false) where
-  after_unsound : (xs : List ℕ) → part_after s xs ≡ record { line = s; answer = Refused Unsound }
+  after_unsound : (xs : List ℕ) → part_after s xs ≡ record { line = s; answer = Err Unsound }
   unfolding part_after
   after_unsound xs = rw u refl
 
@@ -69,7 +69,7 @@ module _ (b : List ℕ) (v : Bool) (e : v ≡ spells_line b) where
       unfolding line_part_on
       part_answer xs t q =
           rw (q, p)
-          (either_way (line_bytes_sound b) (part_after (line_of b) xs).answer (Refused Unsound)
+          (either_way (line_bytes_sound b) (part_after (line_of b) xs).answer (Err Unsound)
           (λ u. rw (after_unsound (line_of b) (unsound u) xs) refl))
 
       pub part_bytes : (xs new : List ℕ) (t : LineAfter) → t ≡ part_after s xs → new ≡ line_bytes t.line

@@ -1,9 +1,8 @@
 -- The calls on the state of a note line given as bytes. Document 02, request 2026-04: "10 first, for a state that breaks the soundness
 -- docs/ gives it". Otherwise each is the call by value on the state that they spell.
-use Rattle.std.specs.Prelude.{ℕ, List, eqb, length}
+use Rattle.p0_refusals.specs.declared.Refusal.{Refusal}
+use Rattle.std.specs.Prelude.{ℕ, List, eqb, length, Err, Ok, Result}
 use Rattle.p0_choice.specs.Choice.{pick}
-use Rattle.p0_refusals.specs.declared.Answer.{Answer}
-use Rattle.p0_refusals.specs.declared.Answer.TheVariants.{Done, Refused}
 use Rattle.p0_refusals.specs.declared.Refusal.TheVariants.{Unsound}
 use Rattle.p4_note_line.specs.declared.Checked.{Checked}
 use Rattle.p4_note_line.specs.declared.Checked.TheVariants as Checks
@@ -12,16 +11,16 @@ use Rattle.p4_note_parts.specs.State.{begun}
 use Rattle.p6_note_bytes.specs.Bytes.{line_size, line_bytes, line_of, line_bytes_sound}
 
 -- ---- "until a new line is begun", in bytes that may be any
-unfoldable pub line_begin_on : List ℕ → Answer
-line_begin_on b = pick (eqb (length b) line_size) (Done 0) (Refused Unsound)
+unfoldable pub line_begin_on : List ℕ → Result ℕ Refusal
+line_begin_on b = pick (eqb (length b) line_size) (Ok 0) (Err Unsound)
 
 -- another length is left as it was
 unfoldable pub line_begin_bytes : List ℕ → List ℕ
 line_begin_bytes b = pick (eqb (length b) line_size) (line_bytes begun) b
 
 -- ---- the next part of the line
-unfoldable pub line_part_on : List ℕ → List ℕ → Answer
-line_part_on b letters = pick (line_bytes_sound b) (part_after (line_of b) letters).answer (Refused Unsound)
+unfoldable pub line_part_on : List ℕ → List ℕ → Result ℕ Refusal
+line_part_on b letters = pick (line_bytes_sound b) (part_after (line_of b) letters).answer (Err Unsound)
 
 -- "The line's state .. records that refusal", 1 or 6, "and refusal 10 leaves the state too as it was"
 unfoldable pub line_part_bytes : List ℕ → List ℕ → List ℕ

@@ -7,7 +7,7 @@ ghost use Rattle.p6_note_bytes.specs.Bytes.{kept_start, line_size, standing_byte
 ghost use Rattle.p6_note_bytes.specs.Bytes.{standing_of, two_at, kept_at, line_of, spells_line};
 ghost use Rattle.p6_note_bytes.specs.Calls.{line_begin_on, line_begin_bytes, line_part_on, line_part_bytes, line_answer_on};
 
-use p0_refusals::{Answer, Refusal};
+use p0_refusals::{Refusal};
 use p4_note_line::Checked;
 use p4_note_parts as parts;
 use p4_note_parts::{Line, Standing};
@@ -163,25 +163,25 @@ fn put_line(b: &mut [u8], s: Line)
 // ---- the calls
 
 // A new line, in bytes that may be any. Refusal: 10, for another length.
-pub fn begin(state: &mut [u8]) -> Answer
+pub fn begin(state: &mut [u8]) -> Result<usize, Refusal>
     ensures value { result ≡ line_begin_on state.old }
     ensures state_after { state.new ≡ line_begin_bytes state.old }
 {
     if state.len() != SIZE {
-        return Answer::Refused(Refusal::Unsound);
+        return Err(Refusal::Unsound);
     }
     zeros::put_zeros(state, 0, SIZE);
-    Answer::Done(0)
+    Ok(0)
 }
 
 // The next part of a line. Refusals: 10, which leaves every byte; then 1 and 6, which the state keeps. Bytes that spell an unsound
 // state are written back as they were.
-pub fn part(state: &mut [u8], letters: &[u32]) -> Answer
+pub fn part(state: &mut [u8], letters: &[u32]) -> Result<usize, Refusal>
     ensures value { result ≡ line_part_on state.old letters.now }
     ensures state_after { state.new ≡ line_part_bytes state.old letters.now }
 {
     if !spells(state) {
-        return Answer::Refused(Refusal::Unsound);
+        return Err(Refusal::Unsound);
     }
     let s = line_of(state);
     let t = parts::part(s, letters);

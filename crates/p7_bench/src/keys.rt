@@ -3,18 +3,18 @@ ghost use Rattle.std.specs.Prelude.{◌≡◌, ◌≤◌};
 ghost use Rattle.p7_bench.specs.Run.{after_keys};
 ghost use Rattle.p7_bench.specs.Typing.{refusals_of, type_key, fresh};
 
-use p0_refusals::Answer;
+use p0_refusals::Refusal;
 use p2_input_method::InputMethod;
 use p3_calls as calls;
 use p3_key as key;
 
 // 1 for a key that is refused, else 0.
-pub fn refusals(given: Answer) -> usize
+pub fn refusals(given: Result<usize, Refusal>) -> usize
     ensures { (result ≡ refusals_of given) × (result ≤ 1) }
 {
     match given {
-        Answer::Done(_) => 0,
-        Answer::Refused(_) => 1,
+        Ok(_) => 0,
+        Err(_) => 1,
     }
 }
 

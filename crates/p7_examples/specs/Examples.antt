@@ -1,12 +1,11 @@
 -- Document 01, "Examples to hold it to": "(P) marks those proved together, by a single table and claim over the definitions".
 -- Request 2026-01: "the cases with capitals in 01 are listed a second time". The claims are in proofs/Hold.
-use Rattle.std.specs.Prelude.{ℕ, Bool, true, false, List, [], ◌∷◌, eqb, length, get_or, take, replicate}
+use Rattle.p0_refusals.specs.declared.Refusal.{Refusal}
+use Rattle.std.specs.Prelude.{ℕ, Bool, true, false, List, [], ◌∷◌, eqb, length, get_or, take, replicate, Err, Ok, Result}
 use Prim.Native.String.{String}
 use Rattle.p0_choice.specs.Choice.{pick, same}
 use Rattle.p0_choice.specs.Text.{word}
 use Rattle.p0_refusals.specs.Answers.{content, unless, output}
-use Rattle.p0_refusals.specs.declared.Answer.{Answer}
-use Rattle.p0_refusals.specs.declared.Answer.TheVariants.{Done, Refused}
 use Rattle.p2_input_method.specs.declared.InputMethod.{InputMethod}
 use Rattle.p2_input_method.specs.declared.InputMethod.TheVariants.{Telex, Vni}
 use Rattle.p3_calls.specs.Output.{text_outcome}
@@ -32,7 +31,7 @@ pub data Example : Type 0 where
 -- what keys on a fresh composition leave: the composition, the last call's answer, and the text that it wrote
 pub record Pressed : Type 0 where
   pub comp : Composition
-  pub answer : Answer
+  pub answer : Result ℕ Refusal
   pub text : List ℕ
 
 -- a key, as the contract of the key call has it, with room for every text and zeros there; after a refusal no key is pressed
@@ -49,12 +48,12 @@ unfoldable pub press_all : Pressed → List ℕ → Pressed
 press_all p [] = p
 press_all p (key ∷ keys) = press_all (press p key) keys
 
-abbrev pub is_done : Answer → Bool
-is_done (Done n) = true
-is_done (Refused r) = false
+abbrev pub is_done : Result ℕ Refusal → Bool
+is_done (Ok n) = true
+is_done (Err r) = false
 
 abbrev pub pressed_on : Composition → String → Pressed
-pressed_on c keys = press_all (record { comp = c; answer = Done 0; text = [] }) (word keys)
+pressed_on c keys = press_all (record { comp = c; answer = Ok 0; text = [] }) (word keys)
 
 abbrev pub pressed : InputMethod → String → Pressed
 pressed m keys = pressed_on (created m) keys

@@ -1,4 +1,5 @@
 -- A line read as letters: as many places as bytes may be read always suffice, so that only what the bytes are refuses it.
+use Rattle.std.specs.Prelude.{Err, Ok, Result}
 use Prim.Native.Nat.{ℕ, ◌+◌, ◌≤◌}
 use mathlib.Core.Path.{◌≡◌, refl, sym, ap, ◌∙◌}
 use mathlib.Core.Bool.{Bool, true, false}
@@ -11,8 +12,6 @@ use borrow.Author.Tests.{le-ltb, ltb-false}
 use Rattle.p0_choice.specs.Choice.{pick}
 use Rattle.p0_refusals.specs.Answers.{Outcome, writes, refuses, content, answer, onto, output}
 use Rattle.p0_refusals.specs.Limits.{byte_limit}
-use Rattle.p0_refusals.specs.declared.Answer.{Answer}
-use Rattle.p0_refusals.specs.declared.Answer.TheVariants.{Done, Refused}
 use Rattle.p0_refusals.specs.declared.Refusal.{Refusal}
 use Rattle.p0_refusals.specs.declared.Refusal.TheVariants.{Long}
 use Rattle.p1_letters.specs.Alphabet.{all_letters}
@@ -21,7 +20,7 @@ use Rattle.p5_utf8.proofs.Encode.{many_bytes}
 use Rattle.p5_utf8_text.specs.Read.{letters, reading}
 use Rattle.p5_utf8_text.proofs.Exact.{letters_exactly}
 use Rattle.p7_line.specs.declared.Begun.{Begun}
-use Rattle.p7_line.specs.declared.Begun.TheVariants.{Refused as Not}
+use Rattle.p7_line.specs.declared.Begun.TheVariants.{Err as Not}
 use Rattle.p2_input_method.specs.declared.InputMethod.{InputMethod}
 use Rattle.p3_cells.specs.Settings.{at_first}
 use Rattle.p7_line.specs.Line.{keys_made, made_line, refused_line, keys_line, line_out}
@@ -41,49 +40,49 @@ read_small s xs e = go (ltb byte_limit (length s)) refl e
         let k : length (encode_all xs) ≤ byte_limit = rw h.0 l in
         (omega (arith, many_bytes xs), h.1)
 
-module _ (s o : List ℕ) (g : Answer) (e : g ≡ answer (reading s) (length o)) (l : length o ≡ byte_limit) where
-  pub read_refused : (r : Refusal) → g ≡ Refused r → reading s ≡ refuses r
+module _ (s o : List ℕ) (g : Result ℕ Refusal) (e : g ≡ answer (reading s) (length o)) (l : length o ≡ byte_limit) where
+  pub read_refused : (r : Refusal) → g ≡ Err r → reading s ≡ refuses r
   unfolding answer
   read_refused r q = go (reading s) refl (sym q ∙ e)
     where
-      go : (u : Outcome) → reading s ≡ u → Refused r ≡ answer u (length o) → reading s ≡ refuses r
+      go : (u : Outcome) → reading s ≡ u → Err r ≡ answer u (length o) → reading s ≡ refuses r
       go (writes xs) p h =
           let k = (read_small s xs p).0 in
-          let d : Refused r ≡ Done (length xs) = h ∙ rw (le-ltb (length o) (length xs) (omega arith)) refl in
+          let d : Err r ≡ Ok (length xs) = h ∙ rw (le-ltb (length o) (length xs) (omega arith)) refl in
           let z : ◌≡◌ {A = ℕ} 0 1 = cc in absurd (omega arith)
       go (refuses w) p h = let k : w ≡ r = cc in p ∙ ap refuses k
 
-  read_whole : (n : ℕ) (out : List ℕ) → g ≡ Done n → out ≡ output (reading s) o → (reading s ≡ writes (take n out)) × (n ≤ byte_limit)
+  read_whole : (n : ℕ) (out : List ℕ) → g ≡ Ok n → out ≡ output (reading s) o → (reading s ≡ writes (take n out)) × (n ≤ byte_limit)
   unfolding answer content output
   read_whole n out q f = go (reading s) refl (sym q ∙ e) f
     where
-      go : (u : Outcome) → reading s ≡ u → Done n ≡ answer u (length o) → out ≡ output u o
+      go : (u : Outcome) → reading s ≡ u → Ok n ≡ answer u (length o) → out ≡ output u o
           → (reading s ≡ writes (take n out)) × (n ≤ byte_limit)
       go (writes xs) p h w =
           let k = (read_small s xs p).0 in
           let m : length xs ≤ length o = omega arith in
-          let d : Done n ≡ Done (length xs) = h ∙ rw (le-ltb (length o) (length xs) m) refl in
+          let d : Ok n ≡ Ok (length xs) = h ∙ rw (le-ltb (length o) (length xs) m) refl in
           let c : n ≡ length xs = cc in
           let v : out ≡ onto xs o = w ∙ rw (le-ltb (length o) (length xs) m) refl in
           (p ∙ ap writes (sym (rw v (take_at xs (drop (length xs) o) n (sym c)))), omega arith)
       go (refuses w) p h f = let z : ◌≡◌ {A = ℕ} 0 1 = cc in absurd (omega arith)
 
-  pub read_done : (n : ℕ) (out : List ℕ) → g ≡ Done n → out ≡ output (reading s) o → reading s ≡ writes (take n out)
+  pub read_done : (n : ℕ) (out : List ℕ) → g ≡ Ok n → out ≡ output (reading s) o → reading s ≡ writes (take n out)
   read_done n out q f = (read_whole n out q f).0
 
   -- the method line
-  pub method_refused : (r : Refusal) → g ≡ Refused r → Not r ≡ begun_by s
+  pub method_refused : (r : Refusal) → g ≡ Err r → Not r ≡ begun_by s
   unfolding begun_by method_named
   method_refused r q = rw (read_refused r q) refl
 
-  pub method_named_lem : (n : ℕ) (out name : List ℕ) (b : Begun) → g ≡ Done n → out ≡ output (reading s) o → name ≡ take n out
+  pub method_named_lem : (n : ℕ) (out name : List ℕ) (b : Begun) → g ≡ Ok n → out ≡ output (reading s) o → name ≡ take n out
       → b ≡ method_named (writes name)
       → b ≡ begun_by s
   unfolding begun_by
   method_named_lem n out name b q f k h = rw (read_done n out q f, ← k) h
 
   -- a line of keys: refused as it is read ..
-  module _ (m : InputMethod) (r : Refusal) (q : g ≡ Refused r) where
+  module _ (m : InputMethod) (r : Refusal) (q : g ≡ Err r) where
     keys_refused : line_out m s ≡ refused_line r
     unfolding line_out keys_line
     keys_refused = rw (read_refused r q) refl
@@ -96,7 +95,7 @@ module _ (s o : List ℕ) (g : Answer) (e : g ≡ answer (reading s) (length o))
     refused_line_out e at o1 o2 h = rw keys_refused h
 
   -- .. or typed
-  module _ (m : InputMethod) (n : ℕ) (out keys : List ℕ) (q : g ≡ Done n) (f : out ≡ output (reading s) o) (k : keys ≡ take n out) where
+  module _ (m : InputMethod) (n : ℕ) (out keys : List ℕ) (q : g ≡ Ok n) (f : out ≡ output (reading s) o) (k : keys ≡ take n out) where
     pub keys_letters : all_letters keys ≡ true
     keys_letters = rw k (read_small s (take n out) (read_done n out q f)).1
 

@@ -1,4 +1,5 @@
 -- A text with a verdict: `write_room` always suffices for its bytes, and `line_room` with the verdict; a longer one is refused.
+use Rattle.std.specs.Prelude.{Err, Ok, Result}
 use Prim.Native.Nat.{ℕ, ◌+◌, ◌<◌, ◌≤◌}
 use mathlib.Core.Path.{◌≡◌, refl, sym, ap, ◌∙◌}
 use mathlib.Core.Bool.{Bool, true, false}
@@ -10,8 +11,6 @@ use borrow.Author.Tests.{le-ltb}
 use Rattle.p0_choice.specs.Choice.{pick}
 use Rattle.p0_choice.specs.Text.{word, line_end}
 use Rattle.p0_refusals.specs.Answers.{writes, content, answer, onto, output}
-use Rattle.p0_refusals.specs.declared.Answer.{Answer}
-use Rattle.p0_refusals.specs.declared.Answer.TheVariants.{Done, Refused}
 use Rattle.p0_refusals.specs.declared.Refusal.{Refusal}
 use Rattle.p0_refusals.specs.declared.Refusal.TheVariants.{Long}
 use Rattle.p0_refusals.specs.Limits.{letter_limit}
@@ -34,15 +33,15 @@ module _ (text : List ℕ) (a : all_letters text ≡ true) (h : length text ≤ 
   text_small : length (encode_all text) ≤ write_room
   text_small = omega (arith, few_bytes text a)
 
-  module _ (o : List ℕ) (g : Answer) (e : g ≡ answer (writing text) (length o)) (l : length o ≡ write_room) where
-    text_done : g ≡ Done (length (encode_all text))
+  module _ (o : List ℕ) (g : Result ℕ Refusal) (e : g ≡ answer (writing text) (length o)) (l : length o ≡ write_room) where
+    text_done : g ≡ Ok (length (encode_all text))
     unfolding answer
     text_done = e ∙ rw (text_bytes, le-ltb (length o) (length (encode_all text)) (omega (arith, text_small))) refl
 
-    pub text_never : (r : Refusal) → g ≡ Refused r → ⊥
+    pub text_never : (r : Refusal) → g ≡ Err r → ⊥
     text_never r q = let d = text_done in let z : ◌≡◌ {A = ℕ} 0 1 = cc in omega arith
 
-    module _ (n : ℕ) (out bs : List ℕ) (q : g ≡ Done n) (f : out ≡ output (writing text) o) (t : bs ≡ take n out) where
+    module _ (n : ℕ) (out bs : List ℕ) (q : g ≡ Ok n) (f : out ≡ output (writing text) o) (t : bs ≡ take n out) where
       text_first : bs ≡ encode_all text
       unfolding answer content output
       text_first =

@@ -1,4 +1,5 @@
 -- A line of keys on a fresh composition, key by key: what is left of the line decides.
+use Rattle.std.specs.Prelude.{Err, Ok}
 use Prim.Native.Nat.{ℕ, ◌+◌, ◌<◌, ◌≤◌}
 use mathlib.Core.Path.{◌≡◌, refl, sym, ap, ◌∙◌, subst}
 use mathlib.Core.Bool.{Bool, true, false}
@@ -23,7 +24,6 @@ use Rattle.p3_cells.specs.declared.Composition.{Composition}
 use Rattle.p3_cells.specs.declared.Mode.{Mode}
 use Rattle.p3_cells.specs.declared.Mode.TheVariants.{Vietnamese}
 use Rattle.p3_cells.specs.declared.Settings.{Settings}
-use Rattle.p0_refusals.specs.declared.Answer.TheVariants.{Done, Refused}
 use Rattle.p3_cells.specs.Settings.{at_first}
 use Rattle.p3_calls.specs.Settings.{created}
 use Rattle.p3_calls.proofs.Kept.{new_sound}
@@ -62,32 +62,32 @@ module _ (c : Composition) (k : ℕ) (o : List ℕ) (s : is_sound c ≡ true) (v
   room h = omega (arith, text_length c.settings.capitals (next_cells c k))
 
   -- 2, and nothing else
-  key_full : (r : Refusal) → answer (key_outcome c k) (length o) ≡ Refused r → (limit < length (next_cells c k)) × (r ≡ Full)
+  key_full : (r : Refusal) → answer (key_outcome c k) (length o) ≡ Err r → (limit < length (next_cells c k)) × (r ≡ Full)
   key_full r q = go (ltb limit (length (next_cells c k))) refl
     where
       go : (b : Bool) → ltb limit (length (next_cells c k)) ≡ b → (limit < length (next_cells c k)) × (r ≡ Full)
       go true e =
           let h = ltb-true limit (length (next_cells c k)) e in
-          let w : Refused Full ≡ Refused r = refuses_answer _ _ (full_key h) (length o) ∙ q in
+          let w : Err Full ≡ Err r = refuses_answer _ _ (full_key h) (length o) ∙ q in
           (h, cc)
       go false e =
           let h = ltb-false limit (length (next_cells c k)) e in
-          let w : Done (length next) ≡ Refused r = writes_answer _ _ (done_key h) (length o) _ (room h) refl ∙ q in
+          let w : Ok (length next) ≡ Err r = writes_answer _ _ (done_key h) (length o) _ (room h) refl ∙ q in
           let z : ◌≡◌ {A = ℕ} 0 1 = cc in absurd (omega arith)
 
-  module _ (n : ℕ) (q : answer (key_outcome c k) (length o) ≡ Done n) where
+  module _ (n : ℕ) (q : answer (key_outcome c k) (length o) ≡ Ok n) where
     key_done : length (next_cells c k) ≤ limit
     key_done = go (ltb limit (length (next_cells c k))) refl
       where
         go : (b : Bool) → ltb limit (length (next_cells c k)) ≡ b → length (next_cells c k) ≤ limit
         go true e =
-            let w : Refused Full ≡ Done n = refuses_answer _ _ (full_key (ltb-true limit (length (next_cells c k)) e)) (length o) ∙ q in
+            let w : Err Full ≡ Ok n = refuses_answer _ _ (full_key (ltb-true limit (length (next_cells c k)) e)) (length o) ∙ q in
             let z : ◌≡◌ {A = ℕ} 0 1 = cc in absurd (omega arith)
         go false e = ltb-false limit (length (next_cells c k)) e
 
     key_count : length next ≡ n
     key_count =
-        let w : Done (length next) ≡ Done n =
+        let w : Ok (length next) ≡ Ok n =
         writes_answer _ _ (done_key key_done) (length o) _ (room key_done) refl ∙ q in
         cc
 
@@ -133,18 +133,18 @@ module _ (z : Settings) (keys : List ℕ) (c : Composition) (text : List ℕ) (n
     unfolding keys_made
     turn = t.rest ∙ rw (add-one i, drop-cons keys i 0 h, ← e, ← cells_next) refl
 
-    pub typing_full : (y : After) (r : Refusal) → y ≡ keyed c k (length text) → y.answer ≡ Refused r
+    pub typing_full : (y : After) (r : Refusal) → y ≡ keyed c k (length text) → y.answer ≡ Err r
         → (keys_made z [] keys ≡ full) × (r ≡ Full)
     unfolding keyed leaving
     typing_full y r d q =
         let w = key_full c k text t.sound mode letter l r (sym (ap (λ (z : After). z.answer) d) ∙ q) in
         (turn ∙ rw (lt-ltb limit (length (next_cells c k)) w.0) refl, w.1)
 
-    pub typing_on : (y : After) (j : ℕ) (new : List ℕ) → y ≡ keyed c k (length text) → y.answer ≡ Done j
+    pub typing_on : (y : After) (j : ℕ) (new : List ℕ) → y ≡ keyed c k (length text) → y.answer ≡ Ok j
         → new ≡ output (key_outcome c k) text → Typing z keys y.comp new j (i + 1)
     unfolding keyed leaving
     typing_on y j new d q f =
-        let g : answer (key_outcome c k) (length text) ≡ Done j = sym (ap (λ (z : After). z.answer) d) ∙ q in
+        let g : answer (key_outcome c k) (length text) ≡ Ok j = sym (ap (λ (z : After). z.answer) d) ∙ q in
         let w = key_done c k text t.sound mode letter l j g in
         let b : y.comp ≡ holding c (next_cells c k) = ap (λ (z : After). z.comp) d ∙ key_comp c k text t.sound mode letter l j g in
         let u : used y.comp ≡ next_cells c k = ap used b ∙ used_held c.settings (next_cells c k) in
@@ -170,7 +170,7 @@ module _ (m : InputMethod) (keys : List ℕ) (c₀ : Composition) (e : c₀ ≡ 
   module _ (c : Composition) (text : List ℕ) (n i : ℕ) (t : Typing c₀.settings keys c text n i) where
     pub line_refused : all_letters keys ≡ true → i < length keys → length text ≡ limit → (k : ℕ) → k ≡ get_or keys i 0
         → (y : After) (r : Refusal) → y ≡ keyed c k (length text)
-        → y.answer ≡ Refused r → made_line (at_first m) (keys_made (at_first m) [] keys) ≡ refused_line r
+        → y.answer ≡ Err r → made_line (at_first m) (keys_made (at_first m) [] keys) ≡ refused_line r
     unfolding made_line
     line_refused a h l k q y r d f =
         let w = typing_full c₀.settings keys c text n i t a h l k q y r d f in

@@ -13,7 +13,7 @@ ghost use Rattle.p7_line.specs.Line.{refused_line, text_line, keys_made, made_li
 ghost use Rattle.p7_line.specs.Mirror.{line_room};
 ghost use Rattle.p7_line.specs.Method.{method_named, begun_by};
 
-use p0_refusals::{Answer, BYTES, LETTERS, Refusal};
+use p0_refusals::{BYTES, LETTERS, Refusal};
 use p2_input_method::InputMethod;
 use p3_cells::LIMIT;
 use p7_slices as slices;
@@ -91,8 +91,8 @@ pub fn method_line(line: &[u8]) -> Begun
     let mut letters = [0u32; BYTES];
     let given = p5_utf8_text::reader::read(line, &mut letters);
     match given {
-        Answer::Refused(refusal) => Begun::Refused(refusal),
-        Answer::Done(n) => named(slices::first(&letters, n)),
+        Err(refusal) => Begun::Refused(refusal),
+        Ok(n) => named(slices::first(&letters, n)),
     }
 }
 
@@ -105,8 +105,8 @@ fn put_text(text: &[u32], out: &mut [u8], at: usize) -> usize
     let mut bytes = [0u8; TEXT];
     let given = p5_utf8_text::writer::write(text, &mut bytes);
     match given {
-        Answer::Refused(_) => at,
-        Answer::Done(n) => slices::put(slices::first_bytes(&bytes, n), out, at),
+        Err(_) => at,
+        Ok(n) => slices::put(slices::first_bytes(&bytes, n), out, at),
     }
 }
 
@@ -143,8 +143,8 @@ fn keys_line(m: InputMethod, keys: &[u32], out: &mut [u8], at: usize) -> usize
         let k = p3_key::process_sound_key(c, key, &mut text);
         let given = k.answer;
         match given {
-            Answer::Refused(refusal) => return put_refused(refusal, out, at),
-            Answer::Done(n) => {
+            Err(refusal) => return put_refused(refusal, out, at),
+            Ok(n) => {
                 count = n;
                 c = k.comp;
             }
@@ -162,7 +162,7 @@ pub fn line_out(m: InputMethod, line: &[u8], out: &mut [u8], at: usize) -> usize
     let mut letters = [0u32; BYTES];
     let given = p5_utf8_text::reader::read(line, &mut letters);
     match given {
-        Answer::Refused(refusal) => put_refused(refusal, out, at),
-        Answer::Done(n) => keys_line(m, slices::first(&letters, n), out, at),
+        Err(refusal) => put_refused(refusal, out, at),
+        Ok(n) => keys_line(m, slices::first(&letters, n), out, at),
     }
 }

@@ -1,7 +1,6 @@
 // Prints every listed word, one to a line, in UTF-8 and in order. Where one is not written, nothing more is, and that is told.
 #![tactic(auto)]
 
-use p0_refusals::Answer;
 use p4_spelling::LONGEST;
 use p7_slices as slices;
 use std::io;
@@ -16,8 +15,8 @@ fn print(to: Stdout, word: &[u32]) -> io::Result<()> {
     let mut bytes = [0u8; WORD + 1];
     let given = p5_utf8_text::writer::write(word, &mut bytes);
     match given {
-        Answer::Refused(_) => Err(Error::other("no letters of a word")),
-        Answer::Done(n) => {
+        Err(_) => Err(Error::other("no letters of a word")),
+        Ok(n) => {
             if WORD < n {
                 return Err(Error::other("more letters than a word's"));
             }
@@ -32,8 +31,8 @@ fn print_number(to: Stdout, n: usize) -> io::Result<()> {
     let mut letters = [0u32; LONGEST];
     let given = p5_lister::word_number(n, &mut letters);
     match given {
-        Answer::Refused(_) => Err(Error::other("no word of this number")),
-        Answer::Done(len) => print(to, slices::first(&letters, len)),
+        Err(_) => Err(Error::other("no word of this number")),
+        Ok(len) => print(to, slices::first(&letters, len)),
     }
 }
 

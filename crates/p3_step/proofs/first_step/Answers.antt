@@ -13,8 +13,8 @@ enum_known-f c = search answers
 pub uo_step-requires : goal.uo_step-requires
 uo_step-requires c = search answers
 
-pub returns-in-At : goal.returns-in-At
-returns-in-At c = search answers
+pub returns-in-Some : goal.returns-in-Some
+returns-in-Some c = search answers
 
-pub returns-in-Nowhere : goal.returns-in-Nowhere
-returns-in-Nowhere c = search answers
+pub returns-in-None : goal.returns-in-None
+returns-in-None c = search answers

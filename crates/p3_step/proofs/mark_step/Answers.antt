@@ -16,11 +16,11 @@ ascii_lower-b-requires c = search answers
 pub mark_for-l-requires : goal.mark_for-l-requires
 mark_for-l-requires c = search answers
 
-pub returns-in-At : goal.returns-in-At
-returns-in-At c = search answers
+pub returns-in-Some : goal.returns-in-Some
+returns-in-Some c = search answers
 
-pub returns-in-Nowhere : goal.returns-in-Nowhere
-returns-in-Nowhere c = search answers
+pub returns-in-None : goal.returns-in-None
+returns-in-None c = search answers
 
 pub offset_bounds-row-i : goal.offset_bounds-row-i
 offset_bounds-row-i c = search answers

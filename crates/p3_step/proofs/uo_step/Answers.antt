@@ -16,8 +16,8 @@ overflow_add-result c = record { fits = search uo_fits }
 pub ua_step-requires : goal.ua_step-requires
 ua_step-requires c = search answers
 
-pub returns-in-At : goal.returns-in-At
-returns-in-At c = search answers
+pub returns-in-Some : goal.returns-in-Some
+returns-in-Some c = search answers
 
-pub returns-in-Nowhere : goal.returns-in-Nowhere
-returns-in-Nowhere c = search answers
+pub returns-in-None : goal.returns-in-None
+returns-in-None c = search answers

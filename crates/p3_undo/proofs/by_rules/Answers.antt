@@ -17,8 +17,8 @@ rule_at-p-requires c = search answers
 pub enum_known-p : goal.enum_known-p
 enum_known-p c = search answers
 
-pub returns-in-At : goal.returns-in-At
-returns-in-At c = search answers
+pub returns-in-Some : goal.returns-in-Some
+returns-in-Some c = search answers
 
 pub loop-i-smaller : goal.loop-i-smaller
 loop-i-smaller c = search answers

@@ -13,8 +13,8 @@ tone_at-p-requires c = search answers
 pub enum_known-p : goal.enum_known-p
 enum_known-p c = search answers
 
-pub returns-in-At : goal.returns-in-At
-returns-in-At c = search answers
+pub returns-in-Some : goal.returns-in-Some
+returns-in-Some c = search answers
 
 pub by_rules-requires : goal.by_rules-requires
 by_rules-requires c = search answers

@@ -17,11 +17,11 @@ gap-requires c = search answers
 pub untally-requires : goal.untally-requires
 untally-requires c = search answers
 
-pub enum_known-fault-in-Refused-1 : goal.enum_known-fault-in-Refused-1
-enum_known-fault-in-Refused-1 c = search answers
+pub enum_known-fault-in-Err-1 : goal.enum_known-fault-in-Err-1
+enum_known-fault-in-Err-1 c = search answers
 
-pub returns-in-Done : goal.returns-in-Done
-returns-in-Done c = search answers
+pub returns-in-Ok : goal.returns-in-Ok
+returns-in-Ok c = search answers
 
-pub returns-in-Refused : goal.returns-in-Refused
-returns-in-Refused c = search answers
+pub returns-in-Err : goal.returns-in-Err
+returns-in-Err c = search answers

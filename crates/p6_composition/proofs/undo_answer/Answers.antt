@@ -13,5 +13,5 @@ returns-in-AppendTrigger c = search answers
 pub returns-in-ConsumeTrigger : goal.returns-in-ConsumeTrigger
 returns-in-ConsumeTrigger c = search answers
 
-pub returns-in-Refused : goal.returns-in-Refused
-returns-in-Refused c = search answers
+pub returns-in-Err : goal.returns-in-Err
+returns-in-Err c = search answers

@@ -22,11 +22,11 @@ line_out-requires c = search answers
 pub returns-in-With : goal.returns-in-With
 returns-in-With c = search answers
 
-pub shape_of-out-in-Refused : goal.shape_of-out-in-Refused
-shape_of-out-in-Refused c = search answers
+pub shape_of-out-in-Err : goal.shape_of-out-in-Err
+shape_of-out-in-Err c = search answers
 
-pub returns-in-Refused : goal.returns-in-Refused
-returns-in-Refused c = search answers
+pub returns-in-Err : goal.returns-in-Err
+returns-in-Err c = search answers
 
 pub shape_of-out-in-Keys : goal.shape_of-out-in-Keys
 shape_of-out-in-Keys c = search answers

@@ -16,8 +16,8 @@ enum_known-phase c = search answers
 pub returns-in-With : goal.returns-in-With
 returns-in-With c = search answers
 
-pub returns-in-Refused : goal.returns-in-Refused
-returns-in-Refused c = search answers
+pub returns-in-Err : goal.returns-in-Err
+returns-in-Err c = search answers
 
 pub returns-in-Keys : goal.returns-in-Keys
 returns-in-Keys c = search answers

@@ -11,12 +11,12 @@ loop-i-init c = let z = c.args in
 pub process_sound_key-k-requires : goal.process_sound_key-k-requires
 process_sound_key-k-requires c = c.loop-i.invariant.4.sound
 
-pub returns-in-Refused : goal.returns-in-Refused
-returns-in-Refused c = let l = c.loop-i in
+pub returns-in-Err : goal.returns-in-Err
+returns-in-Err c = let l = c.loop-i in
     let k = c.process_sound_key-k in
     let q = line_refused c.args.m c.args.keys.now c.new-c.result c.new-c.ensures l.c l.text l.count l.i
     l.invariant.4 c.requires.0 c.loop-i-test.true l.invariant.1
-    _ refl k.result _ k.ensures.0 c.in-Refused.is in
+    _ refl k.result _ k.ensures.0 c.in-Err.is in
     (rw q c.put_refused.ensures.0, c.put_refused.ensures.1, rw (q, ← l.invariant.3) c.put_refused.ensures.2)
 
 pub loop-i-preserved : goal.loop-i-preserved
@@ -28,7 +28,7 @@ loop-i-preserved c = let l = c.loop-i in
       l.invariant.3,
       typing_on c.new-c.result.settings c.args.keys.now l.c l.text l.count l.i l.invariant.4 c.requires.0
           c.loop-i-test.true l.invariant.1
-          _ refl k.result _ _ k.ensures.0 c.in-Done.is k.ensures.1,
+          _ refl k.result _ _ k.ensures.0 c.in-Ok.is k.ensures.1,
     )
 
 pub text_line-requires : goal.text_line-requires

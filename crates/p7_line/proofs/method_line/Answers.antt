@@ -10,8 +10,8 @@ read-given-requires c = search answers
 pub enum_known-given : goal.enum_known-given
 enum_known-given c = search answers
 
-pub enum_known-given-in-Done-1 : goal.enum_known-given-in-Done-1
-enum_known-given-in-Done-1 c = search answers
+pub enum_known-given-in-Ok-1 : goal.enum_known-given-in-Ok-1
+enum_known-given-in-Ok-1 c = search answers
 
 pub first-requires : goal.first-requires
 first-requires c = search answers
@@ -19,8 +19,8 @@ first-requires c = search answers
 pub named-requires : goal.named-requires
 named-requires c = search answers
 
-pub returns-in-Refused : goal.returns-in-Refused
-returns-in-Refused c = search answers
+pub returns-in-Err : goal.returns-in-Err
+returns-in-Err c = search answers
 
-pub returns-in-Done : goal.returns-in-Done
-returns-in-Done c = search answers
+pub returns-in-Ok : goal.returns-in-Ok
+returns-in-Ok c = search answers

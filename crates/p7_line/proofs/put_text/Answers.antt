@@ -16,11 +16,11 @@ first_bytes-requires c = search answers
 pub put-requires : goal.put-requires
 put-requires c = search (text_room_lem, rules)
 
-pub returns-in-Refused : goal.returns-in-Refused
-returns-in-Refused c = let f : ⊥ = search (text_never, rules) in absurd f
+pub returns-in-Err : goal.returns-in-Err
+returns-in-Err c = let f : ⊥ = search (text_never, rules) in absurd f
 
 pub shape_of-out : goal.shape_of-out
 shape_of-out c = search answers
 
-pub returns-in-Done : goal.returns-in-Done
-returns-in-Done c = (search (text_end, rules), search (text_next, rules), search (text_out, rules))
+pub returns-in-Ok : goal.returns-in-Ok
+returns-in-Ok c = (search (text_end, rules), search (text_next, rules), search (text_out, rules))

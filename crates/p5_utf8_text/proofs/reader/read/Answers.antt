@@ -10,8 +10,8 @@ survey-surveyed-requires c = search answers
 pub enum_known-surveyed : goal.enum_known-surveyed
 enum_known-surveyed c = search answers
 
-pub enum_known-surveyed-in-Done-1 : goal.enum_known-surveyed-in-Done-1
-enum_known-surveyed-in-Done-1 c = search answers
+pub enum_known-surveyed-in-Ok-1 : goal.enum_known-surveyed-in-Ok-1
+enum_known-surveyed-in-Ok-1 c = search answers
 
 pub returns-then-out-n : goal.returns-then-out-n
 returns-then-out-n c = search answers
@@ -19,8 +19,8 @@ returns-then-out-n c = search answers
 pub spread-requires : goal.spread-requires
 spread-requires c = search answers
 
-pub returns-in-Refused : goal.returns-in-Refused
-returns-in-Refused c = search answers
+pub returns-in-Err : goal.returns-in-Err
+returns-in-Err c = search answers
 
 pub shape_of-out : goal.shape_of-out
 shape_of-out c = search answers

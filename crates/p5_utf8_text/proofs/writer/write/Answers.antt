@@ -11,8 +11,8 @@ measure-measured-requires c = search answers
 pub enum_known-measured : goal.enum_known-measured
 enum_known-measured c = search answers
 
-pub enum_known-measured-in-Done-1 : goal.enum_known-measured-in-Done-1
-enum_known-measured-in-Done-1 c = search answers
+pub enum_known-measured-in-Ok-1 : goal.enum_known-measured-in-Ok-1
+enum_known-measured-in-Ok-1 c = search answers
 
 pub returns-then-out-n : goal.returns-then-out-n
 returns-then-out-n c = search answers
@@ -20,8 +20,8 @@ returns-then-out-n c = search answers
 pub lay-requires : goal.lay-requires
 lay-requires c = search answers
 
-pub returns-in-Refused : goal.returns-in-Refused
-returns-in-Refused c = search answers
+pub returns-in-Err : goal.returns-in-Err
+returns-in-Err c = search answers
 
 pub shape_of-out : goal.shape_of-out
 shape_of-out c = search answers

@@ -10,8 +10,8 @@ enum_known-given c = search answers
 pub returns-then-n-eq0 : goal.returns-then-n-eq0
 returns-then-n-eq0 c = search answers
 
-pub enum_known-given-in-Refused-1 : goal.enum_known-given-in-Refused-1
-enum_known-given-in-Refused-1 c = search answers
+pub enum_known-given-in-Err-1 : goal.enum_known-given-in-Err-1
+enum_known-given-in-Err-1 c = search answers
 
 pub number-requires : goal.number-requires
 number-requires c = search answers
@@ -19,5 +19,5 @@ number-requires c = search answers
 pub returns-else-n-eq0 : goal.returns-else-n-eq0
 returns-else-n-eq0 c = search answers
 
-pub returns-in-Refused : goal.returns-in-Refused
-returns-in-Refused c = search answers
+pub returns-in-Err : goal.returns-in-Err
+returns-in-Err c = search answers

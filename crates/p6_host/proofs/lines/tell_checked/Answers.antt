@@ -1,5 +1,5 @@
 use borrow.Author.Rules.{rules}
 use Rattle.p6_host.proofs.lines.tell_checked.Goals as goal
 
-pub returns-in-Refused : goal.returns-in-Refused
-returns-in-Refused c = (search rules, search rules, search rules, search rules)
+pub returns-in-Err : goal.returns-in-Err
+returns-in-Err c = (search rules, search rules, search rules, search rules)
