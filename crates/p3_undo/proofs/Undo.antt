@@ -24,7 +24,7 @@ use Rattle.p3_undo.specs.Mirror.{bearing, sign_cells}
 use Rattle.p3_undo.specs.Raw.{ends_in, active}
 use Rattle.p3_undo.specs.Undo.{last_with, has_tone, has_mark, rule_at, by_rules, tone_at, to_undo, tone_lost, restored}
 use Rattle.p3_undo.specs.declared.Undoing.{Undoing}
-use Rattle.p3_undo.specs.declared.Undoing.TheVariants.{Nothing, Tone, Mark}
+use Rattle.p3_undo.specs.declared.Undoing.TheVariants.{Tone, Mark}
 use Rattle.p3_undo.proofs.Signs.{row_length, row_at}
 
 -- ---- a cell
@@ -84,17 +84,17 @@ module _ (row raw : List ℕ) (t : ℕ) (r : MarkRule) where
     unfolding rule_at
     rule_last p q f = rw (eq-eqb r.key t h, ← e, not-false v q, row_length row) f
 
-module _ (cs : List Cell) (raw : List ℕ) (t : ℕ) (s : Undoing) (i : ℕ) (e : s ≡ by_rules cs raw t (drop i (mark_rules Telex))) where
-  pub rules_none : 7 ≤ i → Nothing ≡ s
+module _ (cs : List Cell) (raw : List ℕ) (t : ℕ) (s : Option Undoing) (i : ℕ) (e : s ≡ by_rules cs raw t (drop i (mark_rules Telex))) where
+  pub rules_none : 7 ≤ i → None ≡ s
   unfolding by_rules mark_rules
   rules_none l = sym (e ∙ rw (drop_of_length-le (mark_rules Telex) l) refl)
 
   module _ (r : MarkRule) (p : Option ℕ) (l : i < 7) (f : r ≡ get_or (mark_rules Telex) i no_rule) (q : p ≡ rule_at cs raw t r) where
-    rules_turn : s ≡ place_or p (λ (j : ℕ). Mark j r) (by_rules cs raw t (drop (i + 1) (mark_rules Telex)))
+    rules_turn : s ≡ place_or p (λ (j : ℕ). Some (Mark j r)) (by_rules cs raw t (drop (i + 1) (mark_rules Telex)))
     unfolding by_rules mark_rules
     rules_turn = e ∙ rw (add-one i, drop-cons (mark_rules Telex) i no_rule l, ← f, ← q) refl
 
-    pub rules_found : (j : ℕ) → p ≡ Some j → Mark j r ≡ s
+    pub rules_found : (j : ℕ) → p ≡ Some j → Some (Mark j r) ≡ s
     rules_found j h = sym (rules_turn ∙ rw h refl)
 
     pub rules_on : p ≡ None → s ≡ by_rules cs raw t (drop (i + 1) (mark_rules Telex))
@@ -111,15 +111,15 @@ module _ (row raw : List ℕ) (t : ℕ) (v : Bool) (e : v ≡ ends_in raw t) whe
   tone_last p q f = rw (← e, not-false v q, row_length row) f
 
 -- ---- first the tone, then the rules
-pub undo_vni : (m : InputMethod) (cs : List Cell) (raw : List ℕ) (t : ℕ) → m ≡ Vni → Nothing ≡ to_undo m cs raw t
+pub undo_vni : (m : InputMethod) (cs : List Cell) (raw : List ℕ) (t : ℕ) → m ≡ Vni → None ≡ to_undo m cs raw t
 unfolding to_undo
 undo_vni m cs raw t e = rw e refl
 
 module _ (m : InputMethod) (cs : List Cell) (raw : List ℕ) (t : ℕ) (p : Option ℕ) (e : m ≡ Telex) (f : p ≡ tone_at cs raw t) where
-  pub undo_tone : (i : ℕ) → p ≡ Some i → Tone i ≡ to_undo m cs raw t
+  pub undo_tone : (i : ℕ) → p ≡ Some i → Some (Tone i) ≡ to_undo m cs raw t
   unfolding to_undo
   undo_tone i h = rw (e, ← f, h) refl
 
-  pub undo_mark : (r : Undoing) → p ≡ None → r ≡ by_rules cs raw t (mark_rules Telex) → r ≡ to_undo m cs raw t
+  pub undo_mark : (r : Option Undoing) → p ≡ None → r ≡ by_rules cs raw t (mark_rules Telex) → r ≡ to_undo m cs raw t
   unfolding to_undo
   undo_mark r h q = rw (e, ← f, h) q
