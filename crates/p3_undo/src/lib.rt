@@ -184,17 +184,14 @@ fn rule_at(row: &[u32], raw: &[u32], t: u32, r: MarkRule) -> Option<usize>
     last_marked(row, r.result)
 }
 
+#[tactic(auto, using(crate::proofs::Undo::rules_end, crate::proofs::Undo::rules_found, crate::proofs::Undo::rules_on))]
 fn by_rules(row: &[u32], raw: &[u32], t: u32) -> Option<Undoing>
     ensures { result ≡ by_rules (sign_cells row.now) (raw_lowered raw.now) t (mark_rules Telex) }
 {
-    let mut i: usize = 0;
-    while i < input_method::TELEX_RULES {
-        let r = input_method::telex_rule(i);
-        let p = rule_at(row, raw, t, r);
-        if let Some(j) = p {
-            return Some(Undoing::Mark(j, r));
+    for rule in input_method::telex_rules() {
+        if let Some(i) = rule_at(row, raw, t, rule) {
+            return Some(Undoing::Mark(i, rule));
         }
-        i += 1;
     }
     None
 }
