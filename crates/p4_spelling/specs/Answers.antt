@@ -1,5 +1,5 @@
 -- What the calls answer: the places of the cut, the parts between them, and refusals 6, then 1.
-use Rattle.std.specs.Prelude.{ℕ, ◌-◌, [], ltb, length, take, drop}
+use Rattle.std.specs.Prelude.{ℕ, ◌-◌, Bool, [], ltb, length, take, drop, Err, Ok, Result}
 use Rattle.p0_choice.specs.Choice.{pick}
 use Rattle.p0_refusals.specs.Limits.{letter_limit}
 use Rattle.p0_refusals.specs.Refusals as Refusals
@@ -8,26 +8,21 @@ use Rattle.p0_refusals.specs.declared.Refusal.TheVariants.{Foreign, Long}
 use Rattle.p1_letters.specs.Alphabet.{all_letters}
 use Rattle.p4_rows.specs.Rows.{Word}
 use Rattle.p4_spelling.specs.declared.CutPlaces.{CutPlaces}
-use Rattle.p4_spelling.specs.declared.Cut.{Cut}
-use Rattle.p4_spelling.specs.declared.Cut.TheVariants as Cuts
-use Rattle.p4_spelling.specs.declared.Verdict.{Verdict}
-use Rattle.p4_spelling.specs.declared.Verdict.TheVariants as Verdicts
 use Rattle.p4_spelling.specs.Cut.{onset_end, vowels_end}
 use Rattle.p4_spelling.specs.Verdict.{verdict}
 
 -- document 01's number of an answer's refusal; 0 where it is none
-abbrev pub cut_number : Cut → ℕ
-cut_number (Cuts.At p) = 0
-cut_number (Cuts.Refused r) = Refusals.number_of r
+abbrev pub cut_number : Result CutPlaces Refusal → ℕ
+cut_number (Ok p) = 0
+cut_number (Err r) = Refusals.number_of r
 
-abbrev pub verdict_number : Verdict → ℕ
-verdict_number Verdicts.Yes = 0
-verdict_number Verdicts.No = 0
-verdict_number (Verdicts.Refused r) = Refusals.number_of r
+abbrev pub verdict_number : Result Bool Refusal → ℕ
+verdict_number (Ok b) = 0
+verdict_number (Err r) = Refusals.number_of r
 
 -- "Words .. : at most 64": over the limit 6, a code point outside the alphabet 1
-unfoldable pub permitted : {A : Type 0} → Word → (Refusal → A) → A → A
-permitted w refuse answer = pick (ltb letter_limit (length w)) (refuse Long) (pick (all_letters w) answer (refuse Foreign))
+unfoldable pub permitted : {A : Type 0} → Word → A → Result A Refusal
+permitted w answer = pick (ltb letter_limit (length w)) (Err Long) (pick (all_letters w) (Ok answer) (Err Foreign))
 
 -- where onset and vowels end
 unfoldable pub places_of : Word → CutPlaces
@@ -44,8 +39,8 @@ vowels_part w p =
 unfoldable pub coda_part : Word → CutPlaces → Word
 coda_part w p = pick (ltb (length w) p.vowels) [] (drop p.vowels w)
 
-unfoldable pub cut_answer : Word → Cut
-cut_answer w = permitted w Cuts.Refused (Cuts.At (places_of w))
+unfoldable pub cut_answer : Word → Result CutPlaces Refusal
+cut_answer w = permitted w (places_of w)
 
-unfoldable pub verdict_answer : Word → Verdict
-verdict_answer w = permitted w Verdicts.Refused (pick (verdict w) Verdicts.Yes Verdicts.No)
+unfoldable pub verdict_answer : Word → Result Bool Refusal
+verdict_answer w = permitted w (verdict w)

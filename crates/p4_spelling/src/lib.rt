@@ -20,25 +20,10 @@ use p4_rows::Rows;
 pub const LONGEST: usize = 8;
 
 // Where a word is cut: its onset ends before `onset`, its vowels end before `vowels`.
-#[derive(Clone, Copy)]
+#[derive(Clone, Copy, Debug, PartialEq, Eq)]
 pub struct CutPlaces {
     pub onset: usize,
     pub vowels: usize,
-}
-
-// What the cut answers.
-#[derive(Clone, Copy)]
-pub enum Cut {
-    At(CutPlaces),
-    Refused(Refusal),
-}
-
-// What the verdict answers.
-#[derive(Clone, Copy)]
-pub enum Verdict {
-    Yes,
-    No,
-    Refused(Refusal),
 }
 
 // How many letters stand before the first vowel.
@@ -145,16 +130,17 @@ pub fn coda_part(word: &[u32], at: CutPlaces) -> &[u32]
 }
 
 // The cut of a permitted word.
-pub fn partition(word: &[u32]) -> Cut
+#[tactic(auto, using(p0_choice::proofs::Choices::calls), unfolding(crate::specs::Answers::cut_answer, crate::specs::Answers::permitted))]
+pub fn partition(word: &[u32]) -> Result<CutPlaces, Refusal>
     ensures { result ≡ cut_answer word.now }
 {
     if LETTERS < word.len() {
-        return Cut::Refused(Refusal::Long);
+        Err(Refusal::Long)
+    } else if letters::all_letters(word) {
+        Ok(cut_at(word))
+    } else {
+        Err(Refusal::Foreign)
     }
-    if !letters::all_letters(word) {
-        return Cut::Refused(Refusal::Foreign);
-    }
-    Cut::At(cut_at(word))
 }
 
 // One of the onset's rows goes with one of the vowels', or the onset has no letters. An onset without rows is not
@@ -221,17 +207,18 @@ pub fn accepts(word: &[u32]) -> bool
 }
 
 // The verdict on a permitted word. An accepted word has letters of the alphabet alone, so only the others are asked.
-pub fn is_valid_vietnamese_syllable(word: &[u32]) -> Verdict
+#[tactic(auto, using(p0_choice::proofs::Choices::calls, crate::proofs::Answers::says_yes), unfolding(crate::specs::Answers::verdict_answer, crate::specs::Answers::permitted))]
+pub fn is_valid_vietnamese_syllable(word: &[u32]) -> Result<bool, Refusal>
     ensures { result ≡ verdict_answer word.now }
 {
     if LETTERS < word.len() {
-        return Verdict::Refused(Refusal::Long);
+        return Err(Refusal::Long);
     }
     if accepts(word) {
-        return Verdict::Yes;
+        return Ok(true);
     }
     if !letters::all_letters(word) {
-        return Verdict::Refused(Refusal::Foreign);
+        return Err(Refusal::Foreign);
     }
-    Verdict::No
+    Ok(false)
 }
