@@ -1,4 +1,5 @@
 -- Each way through the call; and that it keeps a composition sound.
+use Rattle.std.specs.Prelude.{None, Option, Some, Ok}
 use Prim.Native.Nat.{ℕ, ◌<◌, ◌≤◌}
 use mathlib.Core.Path.{◌≡◌, refl, sym, ◌∙◌}
 use mathlib.Core.Bool.{Bool, true, false, not}
@@ -20,33 +21,34 @@ use Rattle.p3_undo.specs.Call.{behaviour, not_undone, undo_found, undo_telex}
 use Rattle.p3_undo.specs.declared.TelexUndo.{TelexUndo}
 use Rattle.p3_undo.specs.declared.TelexUndo.TheVariants.{AppendTrigger}
 use Rattle.p3_undo.specs.declared.Undoing.{Undoing}
-use Rattle.p3_undo.specs.declared.Undoing.TheVariants.{Nothing, Tone, Mark}
+use Rattle.p3_undo.specs.declared.Undoing.TheVariants.{Tone, Mark}
 use Rattle.p3_undo.specs.declared.Undone.{Undone}
 use Rattle.p3_undo.proofs.Found.{tone_in_use, mark_in_use}
 
 -- ---- what is found is stored
-module _ (c : Composition) (raw : List ℕ) (t : ℕ) (u : Undoing) (s : is_sound c ≡ true)
-    (f : u ≡ to_undo c.settings.method (used c) raw t) where
-  pub undo_nothing : u ≡ Nothing → not_undone c NoUndo ≡ undo_found c (to_undo c.settings.method (used c) raw t)
+module _ (c : Composition) (raw : List ℕ) (t : ℕ) (o : Option Undoing) (s : is_sound c ≡ true)
+    (f : o ≡ to_undo c.settings.method (used c) raw t) where
+  pub undo_nothing : (k : Undone) → o ≡ None → k ≡ not_undone c NoUndo → k ≡ undo_found c (to_undo c.settings.method (used c) raw t)
   unfolding undo_found
-  undo_nothing q = rw (← f, q) refl
+  undo_nothing k q e = rw (← f, q) e
 
-  pub undo_toneless : (i : ℕ) (x y : Cell) → u ≡ Tone i → x ≡ cell_of c i → y ≡ tone_lost x
-      → record { comp = with_cell c i y; answer = AppendTrigger }
-      ≡ undo_found c (to_undo c.settings.method (used c) raw t)
-  unfolding undo_found undone
-  undo_toneless i x y q a b =
-      let m : i < c.count = tone_in_use c raw t u s f i q in
-      rw (← f, q, holding_set c s i y m, b, a, ← used_at c i m) refl
+  module _ (u : Undoing) (q : o ≡ Some u) where
+    pub undo_toneless : (i : ℕ) (x : Cell) → u ≡ Tone i → x ≡ tone_lost (cell_of c i)
+        → record { comp = with_cell c i x; answer = Ok AppendTrigger }
+        ≡ undo_found c (to_undo c.settings.method (used c) raw t)
+    unfolding undo_found undone
+    undo_toneless i x h b =
+        let m : i < c.count = tone_in_use c raw t o s f u q i h in
+        rw (← f, q, h, holding_set c s i x m, b, ← used_at c i m) refl
 
-  pub undo_restored : (i : ℕ) (r : MarkRule) (x y : Cell) (w : TelexUndo)
-      → u ≡ Mark i r → x ≡ cell_of c i → y ≡ restored r.first x → w ≡ behaviour r
-      → record { comp = with_cell c i y; answer = w }
-      ≡ undo_found c (to_undo c.settings.method (used c) raw t)
-  unfolding undo_found undone
-  undo_restored i r x y w q a b g =
-      let m : i < c.count = mark_in_use c raw t u s f i r q in
-      rw (← f, q, g, holding_set c s i y m, b, a, ← used_at c i m) refl
+    pub undo_restored : (i : ℕ) (r : MarkRule) (x : Cell) (w : TelexUndo)
+        → u ≡ Mark i r → x ≡ restored r.first (cell_of c i) → w ≡ behaviour r
+        → record { comp = with_cell c i x; answer = Ok w }
+        ≡ undo_found c (to_undo c.settings.method (used c) raw t)
+    unfolding undo_found undone
+    undo_restored i r x w h b g =
+        let m : i < c.count = mark_in_use c raw t o s f u q i r h in
+        rw (← f, q, h, g, holding_set c s i x m, b, ← used_at c i m) refl
 
 -- ---- the refusals
 module _ (c : Composition) (k : ℕ) (raw : List ℕ) (r : Undone) (s : Bool) (e : s ≡ is_sound c) where

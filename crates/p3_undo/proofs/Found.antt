@@ -24,17 +24,17 @@ use Rattle.p3_cells.proofs.Holding.{count_fits, used_length}
 use Rattle.p3_undo.specs.Raw.{ends_in, active}
 use Rattle.p3_undo.specs.Undo.{last_with, has_tone, has_mark, rule_at, by_rules, tone_at, to_undo}
 use Rattle.p3_undo.specs.declared.Undoing.{Undoing}
-use Rattle.p3_undo.specs.declared.Undoing.TheVariants.{Nothing, Tone, Mark}
+use Rattle.p3_undo.specs.declared.Undoing.TheVariants.{Tone, Mark}
 
 -- the test of a letter that a rule gives back
 abbrev pub gives : ℕ → Bool
 gives a = pick (in_alphabet a) (in_alphabet (ascii_upper a)) false
 
 -- among n cells
-abbrev pub Fine : ℕ → Undoing → Type 0
-Fine n Nothing = Unit
-Fine n (Tone i) = i < n
-Fine n (Mark i r) = (i < n) × (gives r.first ≡ true)
+abbrev pub Fine : ℕ → Option Undoing → Type 0
+Fine n None = Unit
+Fine n (Some (Tone i)) = i < n
+Fine n (Some (Mark i r)) = (i < n) × (gives r.first ≡ true)
 
 below : (p : Cell → Bool) (cs : List Cell) (n j : ℕ) → last_with p cs n ≡ Some j → j < n
 unfolding last_with
@@ -49,7 +49,7 @@ place_below : (b : Bool) (p : Option ℕ) (n j : ℕ) → pick b p None ≡ Some
 place_below true p n j e f = f e
 place_below false p n j e f = let z : ◌≡◌ {A = ℕ} 0 1 = cc in absurd (omega arith)
 
-next_fine : (n : ℕ) (p : Option ℕ) (made : ℕ → Undoing) (next : Undoing) → ((i : ℕ) → p ≡ Some i → Fine n (made i)) → Fine n next
+next_fine : (n : ℕ) (p : Option ℕ) (made : ℕ → Option Undoing) (next : Option Undoing) → ((i : ℕ) → p ≡ Some i → Fine n (made i)) → Fine n next
     → Fine n (place_or p made next)
 next_fine n None made next f g = g
 next_fine n (Some i) made next f g = f i refl
@@ -67,7 +67,7 @@ module _ (cs : List Cell) (raw : List ℕ) (t : ℕ) where
   unfolding by_rules
   rules_fine [] h = tt
   rules_fine (r ∷ rs) h =
-      next_fine (length cs) (rule_at cs raw t r) (λ (i : ℕ). Mark i r) (by_rules cs raw t rs)
+      next_fine (length cs) (rule_at cs raw t r) (λ (i : ℕ). Some (Mark i r)) (by_rules cs raw t rs)
       (λ i e. (rule_below r i e, pick_first (gives r.first) _ h)) (rules_fine rs (pick_second (gives r.first) _ h))
 
   tone_below : (j : ℕ) → tone_at cs raw t ≡ Some j → j < length cs
@@ -82,26 +82,27 @@ module _ (cs : List Cell) (raw : List ℕ) (t : ℕ) where
   pub undo_fine : (m : InputMethod) → Fine (length cs) (to_undo m cs raw t)
   unfolding to_undo
   undo_fine Telex =
-      next_fine (length cs) (tone_at cs raw t) (λ (i : ℕ). Tone i) (by_rules cs raw t (mark_rules Telex))
+      next_fine (length cs) (tone_at cs raw t) (λ (i : ℕ). Some (Tone i)) (by_rules cs raw t (mark_rules Telex))
       (λ i e. tone_below i e) (rules_fine (mark_rules Telex) telex_gives)
   undo_fine Vni = tt
 
 -- ---- the places found are in use, and so in the array
-module _ (c : Composition) (raw : List ℕ) (t : ℕ) (u : Undoing) (s : is_sound c ≡ true)
-    (f : u ≡ to_undo c.settings.method (used c) raw t) where
-  fine : Fine c.count u
+module _ (c : Composition) (raw : List ℕ) (t : ℕ) (o : Option Undoing) (s : is_sound c ≡ true)
+    (f : o ≡ to_undo c.settings.method (used c) raw t) where
+  fine : Fine c.count o
   fine =
-      let k : Fine (length (used c)) u = rw f (undo_fine (used c) raw t c.settings.method) in
+      let k : Fine (length (used c)) o = rw f (undo_fine (used c) raw t c.settings.method) in
       rw (used_length c s) at k
 
-  pub tone_in_use : (i : ℕ) → u ≡ Tone i → i < c.count
-  tone_in_use i q = rw q at fine
+  module _ (u : Undoing) (q : o ≡ Some u) where
+    pub tone_in_use : (i : ℕ) → u ≡ Tone i → i < c.count
+    tone_in_use i h = rw (q, h) at fine
 
-  pub mark_in_use : (i : ℕ) (r : MarkRule) → u ≡ Mark i r → i < c.count
-  mark_in_use i r q = (rw q at fine).0
+    pub mark_in_use : (i : ℕ) (r : MarkRule) → u ≡ Mark i r → i < c.count
+    mark_in_use i r h = (rw (q, h) at fine).0
 
-  pub tone_place_lem : (i : ℕ) → u ≡ Tone i → i < limit
-  tone_place_lem i q = omega (arith, tone_in_use i q, count_fits c s)
+    pub tone_place_lem : (i : ℕ) → u ≡ Tone i → i < limit
+    tone_place_lem i h = omega (arith, tone_in_use i h, count_fits c s)
 
-  pub mark_place_lem : (i : ℕ) (r : MarkRule) → u ≡ Mark i r → i < limit
-  mark_place_lem i r q = omega (arith, mark_in_use i r q, count_fits c s)
+    pub mark_place_lem : (i : ℕ) (r : MarkRule) → u ≡ Mark i r → i < limit
+    mark_place_lem i r h = omega (arith, mark_in_use i r h, count_fits c s)

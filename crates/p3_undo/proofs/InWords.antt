@@ -20,7 +20,7 @@ use Rattle.p3_cells.specs.declared.Cell.{Cell}
 use Rattle.p3_undo.specs.Raw.{ends_in, active}
 use Rattle.p3_undo.specs.Undo.{last_with, has_tone, has_mark, rule_at, by_rules, tone_at, to_undo}
 use Rattle.p3_undo.specs.declared.Undoing.{Undoing}
-use Rattle.p3_undo.specs.declared.Undoing.TheVariants.{Nothing, Tone, Mark}
+use Rattle.p3_undo.specs.declared.Undoing.TheVariants.{Tone, Mark}
 
 -- ---- "the last cell with ..": of the first n cells, i is the last that passes the test
 pub record LastCell (p : Cell → Bool) (cs : List Cell) (n i : ℕ) : Type 0 where
@@ -90,7 +90,7 @@ module _ (cs : List Cell) (raw : List ℕ) (t : ℕ) where
   NoneOf [] = Unit
   NoneOf (r ∷ rs) = (Applies r → NoCell (has_mark r.result) cs (length cs)) × NoneOf rs
 
-  pub record FirstRule (rs : List MarkRule) (u : Undoing) : Type 0 where
+  pub record FirstRule (rs : List MarkRule) (u : Option Undoing) : Type 0 where
     pub before : List MarkRule
     pub rule : MarkRule
     pub after : List MarkRule
@@ -99,7 +99,7 @@ module _ (cs : List Cell) (raw : List ℕ) (t : ℕ) where
     pub none : NoneOf before
     pub applies : Applies rule
     pub last : LastCell (has_mark rule.result) cs (length cs) cell
-    pub undoes : u ≡ Mark cell rule
+    pub undoes : u ≡ Some (Mark cell rule)
 
   rule_is : (r : MarkRule) (i : ℕ) → rule_at cs raw t r ≡ Some i → Applies r × LastCell (has_mark r.result) cs (length cs) i
   unfolding rule_at
@@ -117,14 +117,14 @@ module _ (cs : List Cell) (raw : List ℕ) (t : ℕ) where
   rule_none r e a = last_none (has_mark r.result) cs (length cs) (rw (eq-eqb r.key t a.key, a.active) at e)
 
   -- no rule has one and nothing is undone, or the first that has one is
-  pub first_rule : (rs : List MarkRule) → (NoneOf rs × (by_rules cs raw t rs ≡ Nothing)) ⊎ FirstRule rs (by_rules cs raw t rs)
+  pub first_rule : (rs : List MarkRule) → (NoneOf rs × (by_rules cs raw t rs ≡ None)) ⊎ FirstRule rs (by_rules cs raw t rs)
   unfolding by_rules
   first_rule [] = inl (tt, refl)
   first_rule (r ∷ rs) = go (rule_at cs raw t r) refl (first_rule rs)
     where
-      go : (p : Option ℕ) → rule_at cs raw t r ≡ p → (NoneOf rs × (by_rules cs raw t rs ≡ Nothing)) ⊎ FirstRule rs (by_rules cs raw t rs)
-          → (NoneOf (r ∷ rs) × (place_or p (λ i. Mark i r) (by_rules cs raw t rs) ≡ Nothing))
-          ⊎ FirstRule (r ∷ rs) (place_or p (λ i. Mark i r) (by_rules cs raw t rs))
+      go : (p : Option ℕ) → rule_at cs raw t r ≡ p → (NoneOf rs × (by_rules cs raw t rs ≡ None)) ⊎ FirstRule rs (by_rules cs raw t rs)
+          → (NoneOf (r ∷ rs) × (place_or p (λ i. Some (Mark i r)) (by_rules cs raw t rs) ≡ None))
+          ⊎ FirstRule (r ∷ rs) (place_or p (λ i. Some (Mark i r)) (by_rules cs raw t rs))
       go (Some i) e f =
           let h = rule_is r i e in
           inr (record { before = []; rule = r; after = rs; cell = i; split = refl; none = tt; applies = h.0; last = h.1; undoes = refl })
@@ -147,16 +147,16 @@ module _ (cs : List Cell) (raw : List ℕ) (t : ℕ) where
 abbrev pub NoTone : List Cell → List ℕ → ℕ → Type 0
 NoTone cs raw t = ends_in raw t ≡ true → NoCell (has_tone t) cs (length cs)
 
-pub data Finds (cs : List Cell) (raw : List ℕ) (t : ℕ) : Undoing → Type 0 where
-  tone : (i : ℕ) → ends_in raw t ≡ true → LastCell (has_tone t) cs (length cs) i → Finds cs raw t (Tone i)
-  mark : (u : Undoing) → NoTone cs raw t → FirstRule cs raw t (mark_rules Telex) u → Finds cs raw t u
-  nothing : NoTone cs raw t → NoneOf cs raw t (mark_rules Telex) → Finds cs raw t Nothing
+pub data Finds (cs : List Cell) (raw : List ℕ) (t : ℕ) : Option Undoing → Type 0 where
+  tone : (i : ℕ) → ends_in raw t ≡ true → LastCell (has_tone t) cs (length cs) i → Finds cs raw t (Some (Tone i))
+  mark : (u : Option Undoing) → NoTone cs raw t → FirstRule cs raw t (mark_rules Telex) u → Finds cs raw t u
+  nothing : NoTone cs raw t → NoneOf cs raw t (mark_rules Telex) → Finds cs raw t None
 
 module _ (cs : List Cell) (raw : List ℕ) (t : ℕ) where
   rules_find : NoTone cs raw t → Finds cs raw t (by_rules cs raw t (mark_rules Telex))
   rules_find n = go (by_rules cs raw t (mark_rules Telex)) (first_rule cs raw t (mark_rules Telex))
     where
-      go : (u : Undoing) → (NoneOf cs raw t (mark_rules Telex) × (u ≡ Nothing)) ⊎ FirstRule cs raw t (mark_rules Telex) u → Finds cs raw t u
+      go : (u : Option Undoing) → (NoneOf cs raw t (mark_rules Telex) × (u ≡ None)) ⊎ FirstRule cs raw t (mark_rules Telex) u → Finds cs raw t u
       go u (inl f) = rw f.1 (nothing n f.0)
       go u (inr f) = mark u n f
 
@@ -165,7 +165,7 @@ module _ (cs : List Cell) (raw : List ℕ) (t : ℕ) where
   undo_finds = go (ends_in raw t) refl (last_with (has_tone t) cs (length cs)) refl
     where
       go : (b : Bool) → ends_in raw t ≡ b → (p : Option ℕ) → last_with (has_tone t) cs (length cs) ≡ p
-          → Finds cs raw t (place_or (pick b p None) (λ i. Tone i) (by_rules cs raw t (mark_rules Telex)))
+          → Finds cs raw t (place_or (pick b p None) (λ i. Some (Tone i)) (by_rules cs raw t (mark_rules Telex)))
       go true e (Some i) f = tone i e (last_is (has_tone t) cs (length cs) i f)
       go true e None f = rules_find (λ q. last_none (has_tone t) cs (length cs) f)
       go false e p f = rules_find (λ q. let z : ◌≡◌ {A = ℕ} 0 1 = cc in absurd (omega arith))

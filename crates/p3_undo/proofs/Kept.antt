@@ -1,4 +1,5 @@
 -- Undo keeps a composition sound.
+use Rattle.std.specs.Prelude.{None, Option, Some}
 use Prim.Native.Nat.{ℕ, ◌<◌, ◌≤◌}
 use mathlib.Core.Path.{◌≡◌, refl}
 use mathlib.Core.Bool.{Bool, true, false}
@@ -23,7 +24,7 @@ use Rattle.p3_undo.specs.Raw.{raw_lowered}
 use Rattle.p3_undo.specs.Undo.{to_undo, tone_lost, restored, undone}
 use Rattle.p3_undo.specs.Call.{not_undone, undo_found, undo_telex}
 use Rattle.p3_undo.specs.declared.Undoing.{Undoing}
-use Rattle.p3_undo.specs.declared.Undoing.TheVariants.{Nothing, Tone, Mark}
+use Rattle.p3_undo.specs.declared.Undoing.TheVariants.{Tone, Mark}
 use Rattle.p3_undo.proofs.Found.{gives, Fine, undo_fine}
 
 restored_cell : (a : ℕ) (x : Cell) → gives a ≡ true → is_cell x ≡ true → is_cell (restored a x) ≡ true
@@ -48,11 +49,11 @@ module _ (c : Composition) (s : is_sound c ≡ true) where
       (each_set is_cell (used c) i (f (get_or (used c) i blank)) (used_cells c s)
       (g (get_or (used c) i blank) (each_at is_cell blank (used c) (used_cells c s) i l)))
 
-  found_sound : (u : Undoing) → Fine (length (used c)) u → is_sound (undo_found c u).comp ≡ true
+  found_sound : (u : Option Undoing) → Fine (length (used c)) u → is_sound (undo_found c u).comp ≡ true
   unfolding undo_found undone tone_lost
-  found_sound Nothing f = s
-  found_sound (Tone i) f = set_sound i tone_lost f (λ x e. toneless_cell x e)
-  found_sound (Mark i r) f = set_sound i (restored r.first) f.0 (λ x e. restored_cell r.first x f.1 e)
+  found_sound None f = s
+  found_sound (Some (Tone i)) f = set_sound i tone_lost f (λ x e. toneless_cell x e)
+  found_sound (Some (Mark i r)) f = set_sound i (restored r.first) f.0 (λ x e. restored_cell r.first x f.1 e)
 
   pub undo_sound : (k : ℕ) (raw : List ℕ) → is_sound (undo_telex c k raw).comp ≡ true
   unfolding undo_telex
@@ -60,7 +61,7 @@ module _ (c : Composition) (s : is_sound c ≡ true) where
       go (is_sound c) (ltb letter_limit (length raw)) (in_alphabet k) (all_letters raw)
       (found_sound u (undo_fine (used c) (raw_lowered raw) (ascii_lower k) c.settings.method))
     where
-      u : Undoing
+      u : Option Undoing
       u = to_undo c.settings.method (used c) (raw_lowered raw) (ascii_lower k)
 
       go : (a b d e : Bool) → is_sound (undo_found c u).comp ≡ true

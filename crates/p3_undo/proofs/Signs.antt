@@ -1,4 +1,5 @@
 -- The row of signs: how it is filled, what a finder reads in it, and that it finds what the cells themselves do.
+use Rattle.std.specs.Prelude.{Option}
 use Prim.Native.Nat.{ℕ, zero, suc, ◌+◌, ◌-◌, ◌*◌, ◌/◌, ◌%◌, ◌<◌, ◌≤◌}
 use mathlib.Core.Path.{◌≡◌, refl, ◌∙◌}
 use mathlib.Core.Bool.{Bool, true}
@@ -108,7 +109,7 @@ module _ (cs : List Cell) (e : each is_cell cs ≡ true) where
   undo_same Vni raw t = refl
 
 -- what the part of a row in use finds is what the cells in use do
-pub row_finds : (c : Composition) → is_sound c ≡ true → (m : InputMethod) (row part raw : List ℕ) (t : ℕ) (u : Undoing)
+pub row_finds : (c : Composition) → is_sound c ≡ true → (m : InputMethod) (row part raw : List ℕ) (t : ℕ) (u : Option Undoing)
     → m ≡ c.settings.method
     → take c.count row ≡ signs (first_cells c c.count) → part ≡ take (c.count - 0) (drop 0 row)
     → u ≡ to_undo m (sign_cells part) raw t → u ≡ to_undo c.settings.method (used c) raw t

@@ -13,7 +13,6 @@ use Rattle.p0_choice.specs.Choice.{pick}
 use Rattle.p0_choice.proofs.Choices.{pick_true, pick_false}
 use Rattle.p1_letters.specs.Alphabet.{ascii_upper}
 use Rattle.p2_input_method.specs.Rules.{mark_rules}
-use Rattle.p2_input_method.specs.Mirror.{no_rule}
 use Rattle.p2_input_method.specs.declared.InputMethod.{InputMethod}
 use Rattle.p2_input_method.specs.declared.InputMethod.TheVariants.{Telex, Vni}
 use Rattle.p2_input_method.specs.declared.MarkRule.{MarkRule}
@@ -24,7 +23,7 @@ use Rattle.p3_undo.specs.Mirror.{bearing, sign_cells}
 use Rattle.p3_undo.specs.Raw.{ends_in, active}
 use Rattle.p3_undo.specs.Undo.{last_with, has_tone, has_mark, rule_at, by_rules, tone_at, to_undo, tone_lost, restored}
 use Rattle.p3_undo.specs.declared.Undoing.{Undoing}
-use Rattle.p3_undo.specs.declared.Undoing.TheVariants.{Nothing, Tone, Mark}
+use Rattle.p3_undo.specs.declared.Undoing.TheVariants.{Tone, Mark}
 use Rattle.p3_undo.proofs.Signs.{row_length, row_at}
 
 -- ---- a cell
@@ -84,20 +83,22 @@ module _ (row raw : List ℕ) (t : ℕ) (r : MarkRule) where
     unfolding rule_at
     rule_last p q f = rw (eq-eqb r.key t h, ← e, not-false v q, row_length row) f
 
-module _ (cs : List Cell) (raw : List ℕ) (t : ℕ) (s : Undoing) (i : ℕ) (e : s ≡ by_rules cs raw t (drop i (mark_rules Telex))) where
-  pub rules_none : 7 ≤ i → Nothing ≡ s
-  unfolding by_rules mark_rules
-  rules_none l = sym (e ∙ rw (drop_of_length-le (mark_rules Telex) l) refl)
+-- the rules from one on: at the end none is left, and before it the first has a cell, or those from the next on are tried
+module _ (cs : List Cell) (raw : List ℕ) (t : ℕ) (rs : List MarkRule) (i : ℕ) where
+  pub rules_end : length rs ≤ i → by_rules cs raw t (drop i rs) ≡ None
+  unfolding by_rules
+  rules_end l = rw (drop_of_length-le rs l) refl
 
-  module _ (r : MarkRule) (p : Option ℕ) (l : i < 7) (f : r ≡ get_or (mark_rules Telex) i no_rule) (q : p ≡ rule_at cs raw t r) where
-    rules_turn : s ≡ place_or p (λ (j : ℕ). Mark j r) (by_rules cs raw t (drop (i + 1) (mark_rules Telex)))
-    unfolding by_rules mark_rules
-    rules_turn = e ∙ rw (add-one i, drop-cons (mark_rules Telex) i no_rule l, ← f, ← q) refl
+  module _ (d : MarkRule) (l : i < length rs) where
+    rules_turn : by_rules cs raw t (drop i rs)
+        ≡ place_or (rule_at cs raw t (get_or rs i d)) (λ (j : ℕ). Some (Mark j (get_or rs i d))) (by_rules cs raw t (drop (i + 1) rs))
+    unfolding by_rules
+    rules_turn = rw (add-one i, drop-cons rs i d l) refl
 
-    pub rules_found : (j : ℕ) → p ≡ Some j → Mark j r ≡ s
-    rules_found j h = sym (rules_turn ∙ rw h refl)
+    pub rules_found : (j : ℕ) → rule_at cs raw t (get_or rs i d) ≡ Some j → by_rules cs raw t (drop i rs) ≡ Some (Mark j (get_or rs i d))
+    rules_found j h = rules_turn ∙ rw h refl
 
-    pub rules_on : p ≡ None → s ≡ by_rules cs raw t (drop (i + 1) (mark_rules Telex))
+    pub rules_on : rule_at cs raw t (get_or rs i d) ≡ None → by_rules cs raw t (drop i rs) ≡ by_rules cs raw t (drop (i + 1) rs)
     rules_on h = rules_turn ∙ rw h refl
 
 -- ---- the tone
@@ -111,15 +112,15 @@ module _ (row raw : List ℕ) (t : ℕ) (v : Bool) (e : v ≡ ends_in raw t) whe
   tone_last p q f = rw (← e, not-false v q, row_length row) f
 
 -- ---- first the tone, then the rules
-pub undo_vni : (m : InputMethod) (cs : List Cell) (raw : List ℕ) (t : ℕ) → m ≡ Vni → Nothing ≡ to_undo m cs raw t
+pub undo_vni : (m : InputMethod) (cs : List Cell) (raw : List ℕ) (t : ℕ) → m ≡ Vni → None ≡ to_undo m cs raw t
 unfolding to_undo
 undo_vni m cs raw t e = rw e refl
 
 module _ (m : InputMethod) (cs : List Cell) (raw : List ℕ) (t : ℕ) (p : Option ℕ) (e : m ≡ Telex) (f : p ≡ tone_at cs raw t) where
-  pub undo_tone : (i : ℕ) → p ≡ Some i → Tone i ≡ to_undo m cs raw t
+  pub undo_tone : (i : ℕ) → p ≡ Some i → Some (Tone i) ≡ to_undo m cs raw t
   unfolding to_undo
   undo_tone i h = rw (e, ← f, h) refl
 
-  pub undo_mark : (r : Undoing) → p ≡ None → r ≡ by_rules cs raw t (mark_rules Telex) → r ≡ to_undo m cs raw t
+  pub undo_mark : (r : Option Undoing) → p ≡ None → r ≡ by_rules cs raw t (mark_rules Telex) → r ≡ to_undo m cs raw t
   unfolding to_undo
   undo_mark r h q = rw (e, ← f, h) q

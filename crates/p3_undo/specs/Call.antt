@@ -1,5 +1,5 @@
 -- Document 01: the undo call, its answer and its refusals in their order: 10, 6, 1 (trigger before raw string), 5.
-use Rattle.std.specs.Prelude.{ℕ, List, eqb, ltb, length}
+use Rattle.std.specs.Prelude.{ℕ, List, eqb, ltb, length, None, Option, Some, Err, Ok, Result}
 use Prim.Native.Char.{code}
 use Rattle.p0_choice.specs.Choice.{pick}
 use Rattle.p0_refusals.specs.Limits.{letter_limit}
@@ -13,16 +13,15 @@ use Rattle.p3_cells.specs.declared.Composition.{Composition}
 use Rattle.p3_undo.specs.Raw.{raw_lowered}
 use Rattle.p3_undo.specs.Undo.{to_undo, undone}
 use Rattle.p3_undo.specs.declared.TelexUndo.{TelexUndo}
-use Rattle.p3_undo.specs.declared.TelexUndo.TheVariants.{AppendTrigger, ConsumeTrigger, Refused}
+use Rattle.p3_undo.specs.declared.TelexUndo.TheVariants.{AppendTrigger, ConsumeTrigger}
 use Rattle.p3_undo.specs.declared.Undoing.{Undoing}
-use Rattle.p3_undo.specs.declared.Undoing.TheVariants.{Nothing, Tone, Mark}
+use Rattle.p3_undo.specs.declared.Undoing.TheVariants.{Tone, Mark}
 use Rattle.p3_undo.specs.declared.Undone.{Undone}
 
 -- the refusal's number, 0 for none
-abbrev pub undo_refusal : TelexUndo → ℕ
-undo_refusal AppendTrigger = 0
-undo_refusal ConsumeTrigger = 0
-undo_refusal (Refused r) = number_of r
+abbrev pub undo_refusal : Result TelexUndo Refusal → ℕ
+undo_refusal (Ok u) = 0
+undo_refusal (Err r) = number_of r
 
 -- "Telex undo: dd consumes its trigger, the others append it."
 unfoldable pub behaviour : MarkRule → TelexUndo
@@ -30,13 +29,13 @@ behaviour r = pick (eqb r.first (code "d")) (pick (eqb r.key (code "d")) Consume
 
 -- "A refusal returns its number; the composition .. [stays as it was]."
 abbrev pub not_undone : Composition → Refusal → Undone
-not_undone c r = record { comp = c; answer = Refused r }
+not_undone c r = record { comp = c; answer = Err r }
 
 -- "5: undo, and the Rust answers None"; a tone: "answer: append"; a mark: "the rule's behaviour is the answer"
-unfoldable pub undo_found : Composition → Undoing → Undone
-undo_found c Nothing = not_undone c NoUndo
-undo_found c (Tone i) = record { comp = holding c (undone (used c) (Tone i)); answer = AppendTrigger }
-undo_found c (Mark i r) = record { comp = holding c (undone (used c) (Mark i r)); answer = behaviour r }
+unfoldable pub undo_found : Composition → Option Undoing → Undone
+undo_found c None = not_undone c NoUndo
+undo_found c (Some (Tone i)) = record { comp = holding c (undone (used c) (Tone i)); answer = Ok AppendTrigger }
+undo_found c (Some (Mark i r)) = record { comp = holding c (undone (used c) (Mark i r)); answer = Ok (behaviour r) }
 
 unfoldable pub undo_telex : Composition → ℕ → List ℕ → Undone
 undo_telex c trigger raw =

@@ -11,7 +11,7 @@ use Rattle.p3_cells.specs.Place.{place_or}
 use Rattle.p3_cells.specs.declared.Cell.{Cell}
 use Rattle.p3_undo.specs.Raw.{ends_in, active}
 use Rattle.p3_undo.specs.declared.Undoing.{Undoing}
-use Rattle.p3_undo.specs.declared.Undoing.TheVariants.{Nothing, Tone, Mark}
+use Rattle.p3_undo.specs.declared.Undoing.TheVariants.{Tone, Mark}
 
 -- the last of the first n cells that passes a test
 unfoldable pub last_with : (Cell → Bool) → List Cell → ℕ → Option ℕ
@@ -33,18 +33,18 @@ rule_at cs raw t r =
     pick (eqb r.key t) (pick (active raw r.first r.key) (last_with (has_mark r.result) cs (length cs)) None) None
 
 -- "each mark rule .. in order", "No such cell: next rule."
-unfoldable pub by_rules : List Cell → List ℕ → ℕ → List MarkRule → Undoing
-by_rules cs raw t [] = Nothing
-by_rules cs raw t (r ∷ rs) = place_or (rule_at cs raw t r) (λ i. Mark i r) (by_rules cs raw t rs)
+unfoldable pub by_rules : List Cell → List ℕ → ℕ → List MarkRule → Option Undoing
+by_rules cs raw t [] = None
+by_rules cs raw t (r ∷ rs) = place_or (rule_at cs raw t r) (λ i. Some (Mark i r)) (by_rules cs raw t rs)
 
 -- "If the raw string ends in t, either case, the last cell with tone t [..] Otherwise each mark rule"
 unfoldable pub tone_at : List Cell → List ℕ → ℕ → Option ℕ
 tone_at cs raw t = pick (ends_in raw t) (last_with (has_tone t) cs (length cs)) None
 
 -- "only under Telex"; "VNI has none."
-unfoldable pub to_undo : InputMethod → List Cell → List ℕ → ℕ → Undoing
-to_undo Telex cs raw t = place_or (tone_at cs raw t) (λ i. Tone i) (by_rules cs raw t (mark_rules Telex))
-to_undo Vni cs raw t = Nothing
+unfoldable pub to_undo : InputMethod → List Cell → List ℕ → ℕ → Option Undoing
+to_undo Telex cs raw t = place_or (tone_at cs raw t) (λ i. Some (Tone i)) (by_rules cs raw t (mark_rules Telex))
+to_undo Vni cs raw t = None
 
 -- "loses it"
 unfoldable pub tone_lost : Cell → Cell
@@ -56,6 +56,5 @@ restored a x = record { base = pick x.upper (ascii_upper a) a; mark = 0; tone = 
 
 -- the cells after it
 unfoldable pub undone : List Cell → Undoing → List Cell
-undone cs Nothing = cs
 undone cs (Tone i) = set cs i (tone_lost (get_or cs i blank))
 undone cs (Mark i r) = set cs i (restored r.first (get_or cs i blank))

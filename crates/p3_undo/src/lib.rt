@@ -21,24 +21,22 @@ use p2_input_method::{InputMethod, MarkRule};
 use p3_cells as cells;
 use p3_cells::{Cell, Composition, LIMIT};
 
-// What becomes of the trigger, or why nothing was undone.
-#[derive(Clone, Copy)]
+// What becomes of the trigger.
+#[derive(Clone, Copy, Debug, PartialEq, Eq)]
 pub enum TelexUndo {
     AppendTrigger,
     ConsumeTrigger,
-    Refused(Refusal),
 }
 
 #[derive(Clone, Copy)]
 pub struct Undone {
     pub comp: Composition,
-    pub answer: TelexUndo,
+    pub answer: Result<TelexUndo, Refusal>,
 }
 
 // The cell that loses its tone; or the cell that gets a rule's first letter back, with that rule.
 #[derive(Clone, Copy)]
 pub enum Undoing {
-    Nothing,
     Tone(usize),
     Mark(usize, MarkRule),
 }
@@ -186,19 +184,16 @@ fn rule_at(row: &[u32], raw: &[u32], t: u32, r: MarkRule) -> Option<usize>
     last_marked(row, r.result)
 }
 
-fn by_rules(row: &[u32], raw: &[u32], t: u32) -> Undoing
+#[tactic(auto, using(crate::proofs::Undo::rules_end, crate::proofs::Undo::rules_found, crate::proofs::Undo::rules_on))]
+fn by_rules(row: &[u32], raw: &[u32], t: u32) -> Option<Undoing>
     ensures { result ≡ by_rules (sign_cells row.now) (raw_lowered raw.now) t (mark_rules Telex) }
 {
-    let mut i: usize = 0;
-    while i < input_method::TELEX_RULES {
-        let r = input_method::telex_rule(i);
-        let p = rule_at(row, raw, t, r);
-        if let Some(j) = p {
-            return Undoing::Mark(j, r);
+    for rule in input_method::telex_rules() {
+        if let Some(i) = rule_at(row, raw, t, rule) {
+            return Some(Undoing::Mark(i, rule));
         }
-        i += 1;
     }
-    Undoing::Nothing
+    None
 }
 
 fn tone_at(row: &[u32], raw: &[u32], t: u32) -> Option<usize>
@@ -211,15 +206,15 @@ fn tone_at(row: &[u32], raw: &[u32], t: u32) -> Option<usize>
 }
 
 // Over the signs of the cells in use, which a caller fills in from where it holds them.
-pub fn to_undo(m: InputMethod, row: &[u32], raw: &[u32], t: u32) -> Undoing
+pub fn to_undo(m: InputMethod, row: &[u32], raw: &[u32], t: u32) -> Option<Undoing>
     ensures { result ≡ to_undo m (sign_cells row.now) (raw_lowered raw.now) t }
 {
     if let InputMethod::Vni = m {
-        return Undoing::Nothing;
+        return None;
     }
     let p = tone_at(row, raw, t);
     if let Some(i) = p {
-        return Undoing::Tone(i);
+        return Some(Undoing::Tone(i));
     }
     by_rules(row, raw, t)
 }
@@ -270,7 +265,7 @@ pub fn behaviour(rule: MarkRule) -> TelexUndo
     TelexUndo::ConsumeTrigger
 }
 
-fn find(c: Composition, raw: &[u32], t: u32) -> Undoing
+fn find(c: Composition, raw: &[u32], t: u32) -> Option<Undoing>
     requires { is_sound c ≡ true }
     ensures { result ≡ to_undo c.settings.method (used c) (raw_lowered raw.now) t }
 {
@@ -292,27 +287,23 @@ fn undo_found(mut c: Composition, raw: &[u32], t: u32) -> Undone
     requires { is_sound c ≡ true }
     ensures { result ≡ undo_found c (to_undo c.settings.method (used c) (raw_lowered raw.now) t) }
 {
-    let u = find(c, raw, t);
-    match u {
-        Undoing::Nothing => Undone {
-            comp: c,
-            answer: TelexUndo::Refused(Refusal::NoUndo),
-        },
+    let Some(undoing) = find(c, raw, t) else {
+        return refuse(c, Refusal::NoUndo);
+    };
+    match undoing {
         Undoing::Tone(i) => {
-            let x = c.cells[i];
-            let y = tone_lost(x);
-            c.cells[i] = y;
+            c.cells[i] = tone_lost(c.cells[i]);
             Undone {
                 comp: c,
-                answer: TelexUndo::AppendTrigger,
+                answer: Ok(TelexUndo::AppendTrigger),
             }
         }
         Undoing::Mark(i, r) => {
-            let x = c.cells[i];
-            let y = restored(r.first, x);
-            c.cells[i] = y;
-            let w = behaviour(r);
-            Undone { comp: c, answer: w }
+            c.cells[i] = restored(r.first, c.cells[i]);
+            Undone {
+                comp: c,
+                answer: Ok(behaviour(r)),
+            }
         }
     }
 }
@@ -322,7 +313,7 @@ fn refuse(c: Composition, why: Refusal) -> Undone
 {
     Undone {
         comp: c,
-        answer: TelexUndo::Refused(why),
+        answer: Err(why),
     }
 }
 

@@ -6,11 +6,9 @@ use mathlib.Core.List.{List, [], ◌∷◌}
 use native.Mathlib.Omega.{arith}
 use lib.ListN.{length}
 use Rattle.p0_refusals.specs.declared.Refusal.{Refusal}
-use Rattle.p0_refusals.specs.declared.Refusal.TheVariants as Refusals
-use Rattle.p4_note_line.specs.declared.Checked.TheVariants as Checks
 use Rattle.p4_note_line.specs.declared.Report.{Report}
 use Rattle.p4_note_line.specs.declared.Taken.{Taken}
-use Rattle.p4_note_line.specs.declared.Taken.TheVariants.{Gap, Letter, Foreign, Long}
+use Rattle.p4_note_line.specs.declared.Taken.TheVariants.{Gap, Letter}
 use Rattle.p4_note_line.specs.Line.{line_limit, taking, whether, fault_from, line_fault, line_report, unless_fault, line_answer}
 use Rattle.p4_note_line.specs.Mirror.{tallied_from, untallied}
 use Rattle.p4_note_line.proofs.Taking.{tells}
@@ -18,14 +16,13 @@ use Rattle.p4_note_line.proofs.Tally.{tally_tells}
 
 -- a line with no refusal has its length within the limit
 module _ (at run x n m : ℕ) where
-  more : (t : Taken) → t ≡ taking at run x → (g l : Result ℕ Refusal)
+  more : (t : Result Taken Refusal) → t ≡ taking at run x → (g l : Result ℕ Refusal)
       → (at < line_limit → g ≡ Ok n → (n ≡ suc at + m) × (n ≤ line_limit))
       → (at < line_limit → l ≡ Ok n → (n ≡ suc at + m) × (n ≤ line_limit))
-      → whether t g l (Err Refusals.Foreign) (Err Refusals.Long) ≡ Ok n → (n ≡ suc at + m) × (n ≤ line_limit)
-  more Gap e g l f h q = f (tells at run x Gap e).1 q
-  more Letter e g l f h q = h (tells at run x Letter e).1 q
-  more Foreign e g l f h q = let z : ◌≡◌ {A = ℕ} 0 1 = cc in absurd (omega arith)
-  more Long e g l f h q = let z : ◌≡◌ {A = ℕ} 0 1 = cc in absurd (omega arith)
+      → whether t g l Err ≡ Ok n → (n ≡ suc at + m) × (n ≤ line_limit)
+  more (Ok Gap) e g l f h q = f (tells at run x (Ok Gap) e).1 q
+  more (Ok Letter) e g l f h q = h (tells at run x (Ok Letter) e).1 q
+  more (Err r) e g l f h q = cc
 
 pub fault_length : (at run n : ℕ) (xs : List ℕ) → at ≤ line_limit → fault_from at run xs ≡ Ok n → (n ≡ at + length xs) × (n ≤ line_limit)
 unfolding fault_from
@@ -38,7 +35,7 @@ fault_length at run n (x ∷ xs) l e =
 
 module _ (line : List ℕ) (f : Result ℕ Refusal) where
   -- with a refusal, that
-  pub answer_refused : (r : Refusal) → f ≡ line_fault line → f ≡ Err r → Checks.Refused r ≡ line_answer line
+  pub answer_refused : (r : Refusal) → f ≡ line_fault line → f ≡ Err r → ◌≡◌ {A = Result Report Refusal} (Err r) (line_answer line)
   unfolding line_answer
   answer_refused r e h = rw (sym e ∙ h) refl
 
@@ -48,8 +45,8 @@ module _ (line : List ℕ) (f : Result ℕ Refusal) where
     fault_short = let q = fault_length 0 0 n line (omega arith) (sym e ∙ h) in omega (arith, q.0, q.1)
 
     -- with none, what the readers have counted
-    pub answer_counted : (t : ℕ) (r : Report) → t ≡ tallied_from 0 0 line → r ≡ untallied t n → Checks.Counted r ≡ line_answer line
+    pub answer_counted : (t : ℕ) (r : Report) → t ≡ tallied_from 0 0 line → r ≡ untallied t n → ◌≡◌ {A = Result Report Refusal} (Ok r) (line_answer line)
     unfolding line_answer line_fault
     answer_counted t r q m =
         let is : n ≡ length line = omega (arith, (fault_length 0 0 n line (omega arith) (sym e ∙ h)).0) in
-        ap Checks.Counted (m ∙ tally_tells line t n q is fault_short) ∙ sym (ap (λ a. unless_fault a (line_report line)) (sym e ∙ h))
+        ap (Ok) (m ∙ tally_tells line t n q is fault_short) ∙ sym (ap (λ a. unless_fault a (line_report line)) (sym e ∙ h))

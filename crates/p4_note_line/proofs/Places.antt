@@ -17,11 +17,11 @@ use Rattle.p0_refusals.specs.declared.Refusal.{Refusal}
 use Rattle.p0_refusals.specs.declared.Refusal.TheVariants as Refusals
 use Rattle.p1_letters.specs.Alphabet.{in_alphabet, is_separator}
 use Rattle.p4_note_line.specs.declared.Taken.{Taken}
-use Rattle.p4_note_line.specs.declared.Taken.TheVariants.{Gap, Letter, Foreign, Long}
+use Rattle.p4_note_line.specs.declared.Taken.TheVariants.{Gap, Letter}
 use Rattle.p4_note_line.specs.Line.{Placed, line_limit, until_gap, line_words, taking, whether, fault_from, line_fault}
 use Rattle.p4_note_line.proofs.Runs.{Run, In, no_gap, gap_before, first_letter, until_whole, until_right, until_cut}
 use Rattle.p4_note_line.proofs.Runs.{words_are_runs, runs_are_words}
-use Rattle.p4_note_line.proofs.Taking.{tells}
+use Rattle.p4_note_line.proofs.Taking.{Tells, tells}
 
 -- ---- what is to be refused at place i
 -- "1 at a foreign letter"
@@ -238,28 +238,33 @@ module _ (line : List ℕ) where
       (one_more at f (subst (Fine line) l h)) in
       turned l e (taking at run x) refl (next 0) (next (suc run))
     where
-      turned : length seen ≡ at → end_run 0 seen ≡ run → (t : Taken) → t ≡ taking at run x
+      turned : length seen ≡ at → end_run 0 seen ≡ run → (t : Result Taken Refusal) → t ≡ taking at run x
           → (end_run run (x ∷ []) ≡ 0 → 0 ≤ letter_limit → Fine line (length seen) → Says line (fault_from (suc at) 0 xs))
           → (end_run run (x ∷ []) ≡ suc run → suc run ≤ letter_limit → Fine line (length seen) → Says line (fault_from (suc at) (suc run) xs))
-          → Says line
-          (whether t (fault_from (suc at) 0 xs) (fault_from (suc at) (suc run) xs) (Err Refusals.Foreign) (Err Refusals.Long))
-      turned l e Gap q gap letter =
-          let h = tells at run x Gap q in
+          → Says line (whether t (fault_from (suc at) 0 xs) (fault_from (suc at) (suc run) xs) Err)
+      turned l e (Ok Gap) q gap letter =
+          let h = tells at run x (Ok Gap) q in
           gap (rw h.2) (omega arith) (gap_fine seen x xs c h.0 (omega (arith, l, h.1)) h.2)
-      turned l e Letter q gap letter =
-          let h = tells at run x Letter q in
+      turned l e (Ok Letter) q gap letter =
+          let h = tells at run x (Ok Letter) q in
           letter (rw h.2) (omega (arith, h.3)) (letter_fine seen x xs c h.0 (omega (arith, l, h.1)) (omega (arith, e, h.3)))
-      turned l e Foreign q gap letter =
-          let h = tells at run x Foreign q in
-          let here = subst (λ i. in_alphabet (get_or line i 0) ≡ false) l (ap in_alphabet (here_is seen x xs c) ∙ h) in
-          (at, inl (refl, (omega (arith, l, in_line seen x xs c), here)), f)
-      turned l e Long q gap letter =
-          let h = tells at run x Long q in
-          let way : (line_limit ≤ length seen) ⊎ ((is_separator x ≡ false) × (letter_limit ≤ end_run 0 seen)) =
-          ⊎_elim (λ m. inl (omega (arith, l, m))) (λ o. inr (o.0, omega (arith, e, o.1))) h.1 in
-          let k : end_run 0 seen ≤ letter_limit = omega (arith, e, r) in
-          let long = subst (LongAt line) l (long_here seen x xs c h.0 k way) in
-          (at, inr (refl, long, subst (λ i. ForeignAt line i → ⊥) l (known_fine seen x xs c h.0)), f)
+      turned l e (Err why) q gap letter = (at, refused l e why (tells at run x (Err why) q), f)
+        where
+          refused : length seen ≡ at → end_run 0 seen ≡ run → (why : Refusal) → Tells (Err why) at run x → RefusedAt why line at
+          refused l e why (inl h) =
+              inl (
+                h.0,
+                (omega (arith, l, in_line seen x xs c), subst (λ i. in_alphabet (get_or line i 0) ≡ false) l (ap in_alphabet (here_is seen x xs c) ∙ h.1)),
+              )
+          refused l e why (inr h) =
+              let way : (line_limit ≤ length seen) ⊎ ((is_separator x ≡ false) × (letter_limit ≤ end_run 0 seen)) =
+              ⊎_elim (λ m. inl (omega (arith, l, m))) (λ o. inr (o.0, omega (arith, e, o.1))) h.2 in
+              let k : end_run 0 seen ≤ letter_limit = omega (arith, e, r) in
+              inr (
+                h.0,
+                subst (LongAt line) l (long_here seen x xs c h.1 k way),
+                subst (λ i. ForeignAt line i → ⊥) l (known_fine seen x xs c h.1),
+              )
 
 -- the refusal of a line is that of the first place which has one, and 1 where it has both
 pub by_place : (line : List ℕ) → Says line (line_fault line)

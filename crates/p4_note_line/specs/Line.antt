@@ -8,11 +8,9 @@ use Rattle.p0_refusals.specs.declared.Refusal.TheVariants as Refusals
 use Rattle.p1_letters.specs.Alphabet.{in_alphabet, is_separator}
 use Rattle.p4_rows.specs.Rows.{Word}
 use Rattle.p4_spelling.specs.Verdict.{verdict}
-use Rattle.p4_note_line.specs.declared.Checked.{Checked}
-use Rattle.p4_note_line.specs.declared.Checked.TheVariants as Checks
 use Rattle.p4_note_line.specs.declared.Report.{Report}
 use Rattle.p4_note_line.specs.declared.Taken.{Taken}
-use Rattle.p4_note_line.specs.declared.Taken.TheVariants.{Gap, Letter, Foreign, Long}
+use Rattle.p4_note_line.specs.declared.Taken.TheVariants.{Gap, Letter}
 
 -- "a line over 4,096"
 abbrev pub line_limit : ℕ
@@ -64,36 +62,34 @@ line_report line =
 -- ---- the refusals
 -- What a letter is that `at` letters stand before, the last `run` of them of one word. "6 at the 65th letter of a word or the 4,097th of
 -- the line, 1 at a foreign letter, .. 1 if both at one place"
-unfoldable pub taking : ℕ → ℕ → ℕ → Taken
+unfoldable pub taking : ℕ → ℕ → ℕ → Result Taken Refusal
 taking at run x =
     pick (in_alphabet x)
-    (pick (ltb at line_limit) (pick (is_separator x) Gap (pick (ltb run letter_limit) Letter Long)) Long)
-    Foreign
+    (pick (ltb at line_limit) (pick (is_separator x) (Ok Gap) (pick (ltb run letter_limit) (Ok Letter) (Err Refusals.Long))) (Err Refusals.Long))
+    (Err Refusals.Foreign)
 
-abbrev pub whether : {A : Type 0} → Taken → A → A → A → A → A
-whether Gap gap letter foreign long = gap
-whether Letter gap letter foreign long = letter
-whether Foreign gap letter foreign long = foreign
-whether Long gap letter foreign long = long
+abbrev pub whether : {A : Type 0} → Result Taken Refusal → A → A → (Refusal → A) → A
+whether (Ok Gap) gap letter refused = gap
+whether (Ok Letter) gap letter refused = letter
+whether (Err r) gap letter refused = refused r
 
 -- "whichever stands first": what is said of the letters that follow; the line's length where none is refused
 unfoldable pub fault_from : ℕ → ℕ → List ℕ → Result ℕ Refusal
 fault_from at run [] = Ok at
-fault_from at run (x ∷ xs) =
-    whether (taking at run x) (fault_from (suc at) 0 xs) (fault_from (suc at) (suc run) xs) (Err Refusals.Foreign) (Err Refusals.Long)
+fault_from at run (x ∷ xs) = whether (taking at run x) (fault_from (suc at) 0 xs) (fault_from (suc at) (suc run) xs) Err
 
 unfoldable pub line_fault : List ℕ → Result ℕ Refusal
 line_fault line = fault_from 0 0 line
 
 -- ---- the answer
-abbrev pub unless_fault : Result ℕ Refusal → Report → Checked
-unless_fault (Ok n) counts = Checks.Counted counts
-unless_fault (Err r) counts = Checks.Refused r
+abbrev pub unless_fault : Result ℕ Refusal → Report → Result Report Refusal
+unless_fault (Ok n) counts = Ok counts
+unless_fault (Err r) counts = Err r
 
-unfoldable pub line_answer : List ℕ → Checked
+unfoldable pub line_answer : List ℕ → Result Report Refusal
 line_answer line = unless_fault (line_fault line) (line_report line)
 
 -- document 01's number of the answer's refusal; 0 where it is none
-abbrev pub checked_number : Checked → ℕ
-checked_number (Checks.Counted counts) = 0
-checked_number (Checks.Refused r) = number_of r
+abbrev pub checked_number : Result Report Refusal → ℕ
+checked_number (Ok counts) = 0
+checked_number (Err r) = number_of r

@@ -16,72 +16,53 @@ pub const LINE: usize = 4096;
 
 // What is told of a line: how many words it has, how many of them are judged no, and where the first of those begins; the line's
 // length where there is none.
-#[derive(Clone, Copy)]
+#[derive(Clone, Copy, Debug, PartialEq, Eq)]
 pub struct Report {
     pub words: usize,
     pub noes: usize,
     pub first: usize,
 }
 
-// What the check of a line answers.
-#[derive(Clone, Copy)]
-pub enum Checked {
-    Counted(Report),
-    Refused(Refusal),
-}
-
 // What a letter is to the line before it.
-#[derive(Clone, Copy)]
+#[derive(Clone, Copy, Debug, PartialEq, Eq)]
 pub enum Taken {
     Gap,
     Letter,
-    Foreign,
-    Long,
 }
 
 // Of a letter that `at` letters stand before, the last `run` of them of one word.
-pub fn take(at: usize, run: usize, x: u32) -> Taken
+#[tactic(auto, using(p0_choice::proofs::Choices::calls), unfolding(crate::specs::Line::taking))]
+pub fn take(at: usize, run: usize, x: u32) -> Result<Taken, Refusal>
     ensures { result ≡ taking at run x }
 {
     if !letters::in_alphabet(x) {
-        return Taken::Foreign;
+        return Err(Refusal::Foreign);
     }
     if LINE <= at {
-        return Taken::Long;
+        return Err(Refusal::Long);
     }
     if letters::is_separator(x) {
-        return Taken::Gap;
+        return Ok(Taken::Gap);
     }
     if LETTERS <= run {
-        return Taken::Long;
+        return Err(Refusal::Long);
     }
-    Taken::Letter
+    Ok(Taken::Letter)
 }
 
 // The line's length, or the refusal of the first letter that has one.
+#[tactic(auto, using(crate::proofs::Faults::fault_gap, crate::proofs::Faults::fault_letter, crate::proofs::Faults::fault_here, crate::proofs::Faults::fault_none), unfolding(crate::specs::Line::line_fault))]
 fn fault_in(line: &[u32]) -> Result<usize, Refusal>
     ensures { result ≡ line_fault line.now }
 {
-    let mut i: usize = 0;
-    let mut run: usize = 0;
-    while i < line.len() {
-        let taken = take(i, run, line[i]);
-        match taken {
-            Taken::Gap => {
-                i += 1;
-                run = 0;
-                continue;
-            }
-            Taken::Letter => {
-                i += 1;
-                run += 1;
-                continue;
-            }
-            Taken::Foreign => return Err(Refusal::Foreign),
-            Taken::Long => return Err(Refusal::Long),
-        }
+    let mut run = 0;
+    for (at, x) in line.iter().enumerate() {
+        run = match take(at, run, *x)? {
+            Taken::Gap => 0,
+            Taken::Letter => run + 1,
+        };
     }
-    Ok(i)
+    Ok(line.len())
 }
 
 // Where the gap that begins at `at` ends; at `at` itself if none begins there.
@@ -167,12 +148,9 @@ fn untally(tally: u64, n: usize) -> Report
 }
 
 // A whole line, checked. Refusals by place: 1 and 6, whichever stands first.
-pub fn check(line: &[u32]) -> Checked
+pub fn check(line: &[u32]) -> Result<Report, Refusal>
     ensures { result ≡ line_answer line.now }
 {
-    let fault = fault_in(line);
-    match fault {
-        Ok(n) => Checked::Counted(untally(gap(line, 0, 0), n)),
-        Err(why) => Checked::Refused(why),
-    }
+    let length = fault_in(line)?;
+    Ok(untally(gap(line, 0, 0), length))
 }

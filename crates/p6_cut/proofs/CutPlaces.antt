@@ -1,6 +1,7 @@
 -- The places of a cut word: those of the cut; and after a refusal all three parts are empty.
+use Rattle.std.specs.Prelude.{Err, Ok}
 use Prim.Native.Nat.{◌+◌, ◌<◌}
-use mathlib.Core.Path.{◌≡◌, refl, sym}
+use mathlib.Core.Path.{◌≡◌, refl}
 use mathlib.Core.List.{[]}
 use native.Mathlib.Omega.{arith}
 use lib.ListN.{length}
@@ -10,24 +11,13 @@ use Rattle.p4_rows.specs.Rows.{Word}
 use Rattle.p4_spelling.specs.Answers.{places_of, cut_answer, onset_part, vowels_part, coda_part}
 use Rattle.p4_spelling.specs.Cut.{onset_of, vowels_of, coda_of}
 use Rattle.p4_spelling.proofs.Answers.{onset_at, vowels_at, coda_at}
-use Rattle.p4_spelling.specs.declared.Cut.{Cut}
-use Rattle.p4_spelling.specs.declared.Cut.TheVariants as Cuts
-use Rattle.p4_spelling.specs.declared.CutPlaces.{CutPlaces}
-use Rattle.p6_cut.specs.Cut.{places_at, places_after}
-
-module _ (w : Word) (g : Cut) (e : g ≡ cut_answer w) where
-  pub cut_places : (p : CutPlaces) → g ≡ Cuts.At p → p ≡ places_after w
-  unfolding places_after
-  cut_places p h = rw (← e, h) refl
-
-  pub refused_places : (r : Refusal) → g ≡ Cuts.Refused r → record { onset = length w + 1; vowels = length w + 1 } ≡ places_after w
-  unfolding places_after
-  refused_places r h = rw (← e, h) refl
+use Rattle.p6_cut.specs.Cut.{past_end, places_after}
 
 -- ---- "all empty after a refusal"
-module _ (w : Word) (r : Refusal) (e : cut_answer w ≡ Cuts.Refused r) where
-  past : places_after w ≡ places_at (length w + 1) (length w + 1)
-  past = sym (refused_places w (Cuts.Refused r) (sym e) r refl)
+module _ (w : Word) (r : Refusal) (e : cut_answer w ≡ Err r) where
+  past : places_after w ≡ past_end w
+  unfolding places_after
+  past = rw e refl
 
   more : length w < length w + 1
   more = omega arith
@@ -45,9 +35,10 @@ module _ (w : Word) (r : Refusal) (e : cut_answer w ≡ Cuts.Refused r) where
   no_coda = rw (past, lt-ltb (length w) (length w + 1) more) refl
 
 -- ---- and of a word that is cut they are document 01's three
-module _ (w : Word) (e : cut_answer w ≡ Cuts.At (places_of w)) where
+module _ (w : Word) (e : cut_answer w ≡ Ok (places_of w)) where
   whole : places_after w ≡ places_of w
-  whole = sym (cut_places w (Cuts.At (places_of w)) (sym e) (places_of w) refl)
+  unfolding places_after
+  whole = rw e refl
 
   pub onset_is : onset_part w (places_after w) ≡ onset_of w
   onset_is = rw whole (onset_at w)

@@ -28,12 +28,12 @@ pub cut_only :
     OneAnswer own.cut.Kinds.ps own.cut.Kinds.r own.cut.Reads.Asked own.cut.Reads.Learnt
     × OneAnswerWalked told.cut.ended (λ M 𝓤 𝓛. told.cut.clauses 𝓛)
 cut_only = (
-  λ κs a. (tt, λ z z' w w' q q'. (λ i. record { word = alike q.0 q'.0 i; onset_end = alike q.1 q'.1 i; vowels_end = alike q.2 q'.2 i }, refl)),
+  λ κs a. (tt, λ z z' w w' q q'. (λ i. record { word = alike q.0 q'.0 i; places = alike q.1 q'.1 i }, refl)),
   record {
     Told = _;
     asks_nothing = λ m κs a. (tt, id⊢ m.𝓤 (emp m.𝓤));
     tells = λ m κs a g z e. id⊢ m.𝓤 _;
-    one = λ κs a z z' w w' q q'. (λ i. record { word = alike q.0 q'.0 i; onset_end = alike q.1 q'.1 i; vowels_end = alike q.2 q'.2 i }, refl);
+    one = λ κs a z z' w w' q q'. (λ i. record { word = alike q.0 q'.0 i; places = alike q.1 q'.1 i }, refl);
   },
 )
 

@@ -29,8 +29,8 @@ offset_bounds-c-i-in-Mark-2 c = let h : c.in-Mark.i < limit = search mark_place_
 pub bounds-c-i-in-Mark-2 : goal.bounds-c-i-in-Mark-2
 bounds-c-i-in-Mark-2 c = search mark_place_lem
 
-pub returns-in-Nothing : goal.returns-in-Nothing
-returns-in-Nothing c = search undo_nothing
+pub returns-in_default : goal.returns-in_default
+returns-in_default c = search undo_nothing
 
 pub returns-in-Tone : goal.returns-in-Tone
 returns-in-Tone c = search undo_toneless

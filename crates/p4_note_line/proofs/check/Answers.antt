@@ -1,27 +1,15 @@
-use borrow.Author.Rules.{rules}
-use mathlib.Core.Path.{refl}
+use Rattle.std.proofs.Common.{rules}
+use Rattle.std.proofs.lemmas.Result.{err_from_is_err_and}
 use Rattle.p4_note_line.proofs.Answers.{answer_refused, answer_counted, fault_short}
 use Rattle.p4_note_line.proofs.check.Goals as goal
 
-ruleset answers = (rules, answer_refused, answer_counted, fault_short, refl)
-
-pub fault_in-fault-requires : goal.fault_in-fault-requires
-fault_in-fault-requires c = search answers
-
-pub enum_known-fault : goal.enum_known-fault
-enum_known-fault c = search answers
+pub returns-in_err-length : goal.returns-in_err-length
+returns-in_err-length c =
+    let p = err_from_is_err_and c.from_residual.result c.from_residual.ensures.1 in
+    rw (p.1, p.2) (answer_refused _ _ _ c.fault_in.ensures c.in_err-length.was)
 
 pub gap-requires : goal.gap-requires
-gap-requires c = search answers
+gap-requires c = (fault_short _ _ _ c.fault_in.ensures c.in_ok-length.was, search rules, search rules)
 
-pub untally-requires : goal.untally-requires
-untally-requires c = search answers
-
-pub enum_known-fault-in-Err-1 : goal.enum_known-fault-in-Err-1
-enum_known-fault-in-Err-1 c = search answers
-
-pub returns-in-Ok : goal.returns-in-Ok
-returns-in-Ok c = search answers
-
-pub returns-in-Err : goal.returns-in-Err
-returns-in-Err c = search answers
+pub returns : goal.returns
+returns c = answer_counted _ _ _ c.fault_in.ensures c.in_ok-length.was _ _ c.gap.ensures c.untally.ensures
