@@ -1,14 +1,15 @@
 -- The mark step's scan, as the code goes through it; that cells and the row of their bases have its place in common; and
 -- where that place can be.
-use Rattle.std.specs.Prelude.{None, Option, Some}
-use Prim.Native.Nat.{ℕ, zero, suc, ◌-◌, ◌<◌, ◌≤◌}
+use Rattle.std.specs.Prelude.{None, Some, is_some}
+use Prim.Native.Nat.{ℕ, zero, suc, ◌+◌, ◌-◌, ◌<◌, ◌≤◌}
 use mathlib.Core.Path.{◌≡◌, refl, sym, ◌∙◌}
 use mathlib.Core.Bool.{Bool, true, false, not}
 use mathlib.Core.List.{List, [], ◌∷◌}
+use mathlib.Core.Logic.{◌⊎◌, inl, inr}
 use native.Mathlib.Omega.{arith}
 use lib.Dec.{eqb}
 use lib.ListN.{length, get_or}
-use borrow.Author.Tests.{eq-eqb, ne_eqb, eqb-false, not-true}
+use borrow.Author.Tests.{eqb-false, not-true}
 use Rattle.p0_choice.specs.Choice.{pick, among}
 use Rattle.p1_letters.specs.Alphabet.{ascii_lower}
 use Rattle.p2_input_method.specs.Rules.{mark_rules, mark_in, mark_for}
@@ -20,46 +21,49 @@ use Rattle.p3_cells.specs.Mirror.{row_cells}
 use Rattle.p3_cells.proofs.Row.{row_length}
 use Rattle.p3_marks.specs.Uo.{base_at}
 use Rattle.p3_marks.specs.Mark.{mark_back, mark_place}
+use Rattle.p2_input_method.specs.Mirror.{mark_found}
 use Rattle.p3_marks.specs.Mirror.{is_mark_key}
 use Rattle.p3_marks.specs.Mirror.{mark_keys}
 use Rattle.p3_marks.proofs.Base.{row_base, same_base, same_length}
 
 -- ---- the scan
-pub mark_first : (m : InputMethod) (row : List ℕ) (k : ℕ) → mark_place m (row_cells row) k ≡ mark_back m (row_cells row) k 5 (length row)
+pub mark_first : (m : InputMethod) (row : List ℕ) (k : ℕ)
+    → mark_place m (row_cells row) k ≡ mark_back m (row_cells row) k (length row + 5 - length row) (length row)
 unfolding mark_place
-mark_first m row k = rw (row_length row) refl
+mark_first m row k = let d : length row + 5 - length row ≡ 5 = omega arith in rw (row_length row, d) refl
 
-turn : (m : InputMethod) (cs : List Cell) (k left i : ℕ) → 0 < left → 0 < i
-    → mark_back m cs k left i ≡ pick (eqb (mark_for m (base_at cs (i - 1)) k) 0) (mark_back m cs k (left - 1) (i - 1)) (Some (i - 1))
+turn : (m : InputMethod) (cs : List Cell) (k n i : ℕ)
+    → mark_back m cs k (suc n) (suc i) ≡ pick (eqb (mark_for m (base_at cs i) k) 0) (mark_back m cs k n i) (Some i)
 unfolding mark_back
-turn m cs k zero i l h = absurd (omega arith)
-turn m cs k (suc n) zero l h = absurd (omega arith)
-turn m cs k (suc n) (suc i) l h =
-    let a : suc i - 1 ≡ i = omega arith in
-    let d : suc n - 1 ≡ n = omega arith in
-    rw (a, d) refl
+turn m cs k n i = refl
 
-few : (m : InputMethod) (cs : List Cell) (k left i : ℕ) → i ≡ 0 → mark_back m cs k left i ≡ None
+few : (m : InputMethod) (cs : List Cell) (k left i : ℕ) → (left ≡ 0) ⊎ (i ≡ 0) → mark_back m cs k left i ≡ None
 unfolding mark_back
 few m cs k zero i h = refl
 few m cs k (suc n) zero h = refl
-few m cs k (suc n) (suc j) h = absurd (omega arith)
+few m cs k (suc n) (suc j) (inl h) = absurd (omega arith)
+few m cs k (suc n) (suc j) (inr h) = absurd (omega arith)
 
-module _ (m : InputMethod) (row : List ℕ) (k : ℕ) (s : Option ℕ) (left i : ℕ) (e : s ≡ mark_back m (row_cells row) k left i) where
-  pub mark_out_lem : left ≤ 0 → None ≡ s
-  unfolding mark_back
-  mark_out_lem l = let d : left ≡ 0 = omega arith in rw (e, d) refl
+-- a place of the last five
+pub mark_turn : (m : InputMethod) (row : List ℕ) (k i : ℕ) → length row ≤ i + 5
+    → mark_back m (row_cells row) k (i + 1 + 5 - length row) (i + 1)
+    ≡ pick (is_some (mark_found m (ascii_lower (get_or row i 0)) k)) (Some i) (mark_back m (row_cells row) k (i + 5 - length row) i)
+unfolding mark_found
+mark_turn m row k i l =
+    let a : i + 1 + 5 - length row ≡ suc (i + 5 - length row) = omega arith in
+    let b : i + 1 ≡ suc i = omega arith in
+    rw (a, b, turn m (row_cells row) k (i + 5 - length row) i, row_base row i) (go (eqb (mark_for m (ascii_lower (get_or row i 0)) k) 0))
+  where
+    go : (t : Bool) → pick t (mark_back m (row_cells row) k (i + 5 - length row) i) (Some i)
+        ≡ pick (is_some (pick t None (Some (mark_for m (ascii_lower (get_or row i 0)) k)))) (Some i) (mark_back m (row_cells row) k (i + 5 - length row) i)
+    go true = refl
+    go false = refl
 
-  module _ (l : 0 < left) where
-    pub mark_end : i ≡ 0 → None ≡ s
-    mark_end h = sym (e ∙ few m (row_cells row) k left i h)
-
-    module _ (b x : ℕ) (h : i ≡ 0 → ⊥) (p : b ≡ ascii_lower (get_or row (i - 1) 0)) (q : x ≡ mark_for m b k) where
-      pub mark_found : (x ≡ 0 → ⊥) → Some (i - 1) ≡ s
-      mark_found t = rw (e, turn m (row_cells row) k left i l (omega arith), row_base row (i - 1), ← p, ← q, ne_eqb x 0 t) refl
-
-      pub mark_on : x ≡ 0 → s ≡ mark_back m (row_cells row) k (left - 1) (i - 1)
-      mark_on t = rw (e, turn m (row_cells row) k left i l (omega arith), row_base row (i - 1), ← p, ← q, eq-eqb x 0 t) refl
+-- none of them is left
+pub mark_end : (m : InputMethod) (row : List ℕ) (k i : ℕ) → (i + 5 ≤ length row) ⊎ (i ≡ 0)
+    → mark_back m (row_cells row) k (i + 5 - length row) i ≡ None
+mark_end m row k i (inl h) = few m (row_cells row) k (i + 5 - length row) i (inl (omega arith))
+mark_end m row k i (inr h) = few m (row_cells row) k (i + 5 - length row) i (inr h)
 
 -- ---- a key that is in no rule marks nothing
 none_in : (rs : List MarkRule) (b k : ℕ) → among k (mark_keys rs) ≡ false → mark_in rs b k ≡ 0

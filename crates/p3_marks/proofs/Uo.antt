@@ -1,14 +1,14 @@
 -- The uo step's scan, as the code goes through it; that cells and the row of their bases have its place in common; and
 -- where that place can be.
-use Rattle.std.specs.Prelude.{None, Option, Some}
-use Prim.Native.Nat.{ℕ, zero, suc, ◌-◌, ◌<◌, ◌≤◌}
-use mathlib.Core.Path.{◌≡◌, refl, sym, ◌∙◌}
+use Rattle.std.specs.Prelude.{None, Some}
+use Prim.Native.Nat.{ℕ, zero, suc, ◌+◌, ◌-◌, ◌<◌, ◌≤◌}
+use mathlib.Core.Path.{◌≡◌, refl}
 use mathlib.Core.Bool.{Bool, true, false}
 use mathlib.Core.List.{List}
+use mathlib.Core.Logic.{◌⊎◌, inl, inr}
 use native.Mathlib.Omega.{arith}
 use lib.Dec.{eqb}
 use lib.ListN.{length, get_or}
-use borrow.Author.Tests.{eq-eqb, ne_eqb}
 use Rattle.p0_choice.specs.Choice.{pick}
 use Rattle.p1_letters.specs.Alphabet.{ascii_lower}
 use Rattle.p1_letters.specs.Vowels.{is_vowel}
@@ -19,55 +19,39 @@ use Rattle.p3_cells.proofs.Row.{row_length}
 use Rattle.p3_marks.specs.Uo.{base_at, uo_back, uo_place}
 use Rattle.p3_marks.proofs.Base.{row_base, same_base, same_length}
 
-pub uo_first : (row : List ℕ) → uo_place (row_cells row) ≡ uo_back (row_cells row) 5 (length row)
+pub uo_first : (row : List ℕ) → uo_place (row_cells row) ≡ uo_back (row_cells row) (length row + 5 - length row) (length row)
 unfolding uo_place
-uo_first row = rw (row_length row) refl
+uo_first row = let d : length row + 5 - length row ≡ 5 = omega arith in rw (row_length row, d) refl
 
-turn : (cs : List Cell) (left i : ℕ) → 0 < left → 2 ≤ i
-    → uo_back cs left i ≡ pick (eqb (base_at cs (i - 1)) 111) (pick (eqb (base_at cs (i - 1 - 1)) 117) (Some (i - 1 - 1)) None)
-    (pick (is_vowel (base_at cs (i - 1))) None (uo_back cs (left - 1) (i - 1)))
+turn : (cs : List Cell) (n i : ℕ) → uo_back cs (suc n) (suc (suc i))
+    ≡ pick (eqb (base_at cs (suc i)) 111) (pick (eqb (base_at cs i) 117) (Some i) None) (pick (is_vowel (base_at cs (suc i))) None (uo_back cs n (suc i)))
 unfolding uo_back
-turn cs zero i l h = absurd (omega arith)
-turn cs (suc n) zero l h = absurd (omega arith)
-turn cs (suc n) (suc zero) l h = absurd (omega arith)
-turn cs (suc n) (suc (suc j)) l h =
-    let a : suc (suc j) - 1 ≡ suc j = omega arith in
-    let b : suc j - 1 ≡ j = omega arith in
-    let d : suc n - 1 ≡ n = omega arith in
-    rw (a, b, d) refl
+turn cs n i = refl
 
-few : (cs : List Cell) (left i : ℕ) → i < 2 → uo_back cs left i ≡ None
+few : (cs : List Cell) (left i : ℕ) → (left ≡ 0) ⊎ (i < 2) → uo_back cs left i ≡ None
 unfolding uo_back
 few cs zero i h = refl
 few cs (suc n) zero h = refl
 few cs (suc n) (suc zero) h = refl
-few cs (suc n) (suc (suc j)) h = absurd (omega arith)
+few cs (suc n) (suc (suc j)) (inl h) = absurd (omega arith)
+few cs (suc n) (suc (suc j)) (inr h) = absurd (omega arith)
 
-module _ (row : List ℕ) (s : Option ℕ) (left i : ℕ) (e : s ≡ uo_back (row_cells row) left i) where
-  pub uo_out : left ≤ 0 → None ≡ s
-  unfolding uo_back
-  uo_out l = let d : left ≡ 0 = omega arith in rw (e, d) refl
+-- the o is looked for at a place of the last five
+pub uo_turn : (row : List ℕ) (i : ℕ) → 1 ≤ i → length row ≤ i + 5
+    → uo_back (row_cells row) (i + 1 + 5 - length row) (i + 1)
+    ≡ pick (eqb (ascii_lower (get_or row i 0)) 111) (pick (eqb (ascii_lower (get_or row (i - 1) 0)) 117) (Some (i - 1)) None)
+    (pick (is_vowel (ascii_lower (get_or row i 0))) None (uo_back (row_cells row) (i + 5 - length row) i))
+uo_turn row zero h l = absurd (omega arith)
+uo_turn row (suc j) h l =
+    let a : suc j + 1 + 5 - length row ≡ suc (suc j + 5 - length row) = omega arith in
+    let b : suc j + 1 ≡ suc (suc j) = omega arith in
+    let d : suc j - 1 ≡ j = omega arith in
+    rw (a, b, d, turn (row_cells row) (suc j + 5 - length row) j, row_base row (suc j), row_base row j) refl
 
-  module _ (l : 0 < left) where
-    pub uo_few : i < 2 → None ≡ s
-    uo_few h = sym (e ∙ few (row_cells row) left i h)
-
-    module _ (o : ℕ) (h : 2 ≤ i) (p : o ≡ ascii_lower (get_or row (i - 1) 0)) where
-      pub uo_found : (u : ℕ) → o ≡ 111 → u ≡ ascii_lower (get_or row (i - 1 - 1) 0) → u ≡ 117 → Some (i - 1 - 1) ≡ s
-      uo_found u t q v =
-          rw (e, turn (row_cells row) left i l h, row_base row (i - 1), ← p, row_base row (i - 1 - 1), ← q, eq-eqb o 111 t, eq-eqb u 117 v)
-          refl
-
-      pub uo_other : (u : ℕ) → o ≡ 111 → u ≡ ascii_lower (get_or row (i - 1 - 1) 0) → (u ≡ 117 → ⊥) → None ≡ s
-      uo_other u t q v =
-          rw (e, turn (row_cells row) left i l h, row_base row (i - 1), ← p, row_base row (i - 1 - 1), ← q, eq-eqb o 111 t, ne_eqb u 117 v)
-          refl
-
-      pub uo_vowel : (v : Bool) → (o ≡ 111 → ⊥) → v ≡ is_vowel o → v ≡ true → None ≡ s
-      uo_vowel v t q y = rw (e, turn (row_cells row) left i l h, row_base row (i - 1), ← p, ne_eqb o 111 t, ← q, y) refl
-
-      pub uo_on : (v : Bool) → (o ≡ 111 → ⊥) → v ≡ is_vowel o → v ≡ false → s ≡ uo_back (row_cells row) (left - 1) (i - 1)
-      uo_on v t q y = rw (e, turn (row_cells row) left i l h, row_base row (i - 1), ← p, ne_eqb o 111 t, ← q, y) refl
+-- none of them is left
+pub uo_end : (row : List ℕ) (i : ℕ) → (i + 5 ≤ length row) ⊎ (i < 2) → uo_back (row_cells row) (i + 5 - length row) i ≡ None
+uo_end row i (inl h) = few (row_cells row) (i + 5 - length row) i (inl (omega arith))
+uo_end row i (inr h) = few (row_cells row) (i + 5 - length row) i (inr h)
 
 -- ---- the place: one of a cell that has another after it
 back_below : (cs : List Cell) (n i j : ℕ) → uo_back cs n i ≡ Some j → suc j < i

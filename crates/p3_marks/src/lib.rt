@@ -13,24 +13,16 @@ use p2_input_method as input_method;
 use p2_input_method::InputMethod;
 
 // The u of the pair: an o after a u among the last 5, with no other vowel on the way.
+#[tactic(auto, using(crate::proofs::Uo::uo_first, crate::proofs::Uo::uo_turn, crate::proofs::Uo::uo_end))]
 pub fn find_uo(row: &[u32]) -> Option<usize>
     ensures { result ≡ uo_place (row_cells row.now) }
 {
-    let mut i = row.len();
-    let mut left: usize = 5;
-    while 0 < left {
-        if i < 2 {
-            return None;
-        }
-        i -= 1;
-        left -= 1;
+    let reach = row.len().saturating_sub(5).max(1);
+    for i in (reach..row.len()).rev() {
         let o = letters::ascii_lower(row[i]);
         if o == 111 {
             let u = letters::ascii_lower(row[i - 1]);
-            if u == 117 {
-                return Some(i - 1);
-            }
-            return None;
+            return if u == 117 { Some(i - 1) } else { None };
         }
         if letters::is_vowel(o) {
             return None;
@@ -40,6 +32,7 @@ pub fn find_uo(row: &[u32]) -> Option<usize>
 }
 
 // The u of a ua at the end, with no q before it.
+#[tactic(auto, using(crate::proofs::Ua::ua_turn))]
 pub fn find_ua(row: &[u32]) -> Option<usize>
     ensures { result ≡ ua_place (row_cells row.now) }
 {
@@ -47,74 +40,38 @@ pub fn find_ua(row: &[u32]) -> Option<usize>
     if n < 2 {
         return None;
     }
-    let u = letters::ascii_lower(row[n - 2]);
-    if u != 117 {
+    if letters::ascii_lower(row[n - 2]) != 117 || letters::ascii_lower(row[n - 1]) != 97 {
         return None;
     }
-    let a = letters::ascii_lower(row[n - 1]);
-    if a != 97 {
-        return None;
-    }
-    if n < 3 {
-        return Some(n - 2);
-    }
-    let q = letters::ascii_lower(row[n - 3]);
-    if q == 113 {
+    if 2 < n && letters::ascii_lower(row[n - 3]) == 113 {
         return None;
     }
     Some(n - 2)
 }
 
 // The last of the 5 whose base makes a rule with the key; most keys are in no rule, and need no scan.
+#[tactic(auto, using(crate::proofs::Mark::mark_no_key, crate::proofs::Mark::mark_first, crate::proofs::Mark::mark_turn, crate::proofs::Mark::mark_end))]
 pub fn find_mark_backtrack(m: InputMethod, row: &[u32], k: u32) -> Option<usize>
     ensures { result ≡ mark_place m (row_cells row.now) k }
 {
     if !is_mark_key(m, k) {
         return None;
     }
-    let mut i = row.len();
-    let mut reach: usize = 5;
-    while 0 < reach {
-        if i == 0 {
-            return None;
-        }
-        i -= 1;
-        reach -= 1;
-        let b = letters::ascii_lower(row[i]);
-        let l = input_method::mark_for(m, b, k);
-        if l != 0 {
+    for i in (row.len().saturating_sub(5)..row.len()).rev() {
+        if input_method::mark_for(m, letters::ascii_lower(row[i]), k).is_some() {
             return Some(i);
         }
     }
     None
 }
 
-// The key of a mark rule. Neighbours stand in arms of their own.
-fn is_telex_mark_key(k: u32) -> bool
-    ensures { result ≡ is_mark_key InputMethod.Telex k }
-{
-    match k {
-        97 | 100 | 111 | 119 => true,
-        101 => true,
-        _ => false,
-    }
-}
-
-fn is_vni_mark_key(k: u32) -> bool
-    ensures { result ≡ is_mark_key InputMethod.Vni k }
-{
-    match k {
-        54 | 56 => true,
-        55 | 57 => true,
-        _ => false,
-    }
-}
-
+// The key of a mark rule: a d e o w, or 6 to 9.
+#[tactic(auto, unfolding(crate::specs::Mirror::is_mark_key, crate::specs::Mirror::mark_keys, p2_input_method::specs::Rules::mark_rules, p2_input_method::specs::Rules::mark_rule, p0_choice::specs::Text::word))]
 fn is_mark_key(m: InputMethod, k: u32) -> bool
     ensures { result ≡ is_mark_key m k }
 {
     match m {
-        InputMethod::Telex => is_telex_mark_key(k),
-        InputMethod::Vni => is_vni_mark_key(k),
+        InputMethod::Telex => matches!(k, 97 | 100 | 101 | 111 | 119),
+        InputMethod::Vni => matches!(k, 54..=57),
     }
 }

@@ -1,12 +1,13 @@
 -- The bytes past the cells in use, by blocks of 128: a run of zeros is two runs, and eight bytes as one number are 0 where each is.
 use Prim.Native.Nat.{ℕ, zero, suc, ◌+◌, ◌-◌, ◌*◌, ◌≤◌, ◌<◌}
 use mathlib.Core.Path.{◌≡◌, refl, sym, ap, ◌∙◌}
-use mathlib.Core.Bool.{Bool, true, false}
+use mathlib.Core.Bool.{Bool, true, false, ◌&&◌}
 use mathlib.Core.List.{List}
 use native.Mathlib.Omega.{arith}
 use lib.Dec.{eqb}
 use lib.Bits.{bit_or, or_zero_l, or_add_and, and_le_r}
 use lib.ListN.{length, drop, length-drop}
+use Rattle.std.specs.List.{list_all, range_with_len}
 use lib.Seq.{get_or-drop}
 use borrow.Author.Tests.{eq-eqb, ne_eqb, eqb-true, eqb-false}
 use Rattle.p0_choice.specs.Choice.{pick, each, from as numbers}
@@ -55,7 +56,7 @@ whole : (t : Bool) → pick t true false ≡ t
 whole true = refl
 whole false = refl
 
-one_byte : (b : List ℕ) (i : ℕ) → zero_in b 1 i ≡ eqb (byte_at b i) 0
+pub one_byte : (b : List ℕ) (i : ℕ) → zero_in b 1 i ≡ eqb (byte_at b i) 0
 unfolding zero_in is_zero
 one_byte b i = whole (eqb (byte_at b i) 0)
 
@@ -97,103 +98,41 @@ long_zero b at r e = ap (λ (x : ℕ). eqb x 0) e ∙ sym z7
     z7 = in_one b 7 at _ z6 ∙ sym (plus_zero _ (byte_at b (at + 7)) 72057594037927935)
 
 -- ---- the loops
-pub block_start : (b : List ℕ) (at : ℕ) → eqb 0 0 ≡ zero_in b (8 * 0) at
+-- a run of zeros and the run after it, seen through one number
+pub run_on : (b : List ℕ) (n m at t w : ℕ) → eqb t 0 ≡ zero_in b n at → eqb w 0 ≡ zero_in b m (at + n) → eqb (bit_or t w) 0 ≡ zero_in b (n + m) at
+run_on b n m at t w p q = or_zero t w ∙ rw (p, q) (sym (in_split b n m at))
+
+-- the first blocks, and the last one, which is taken from the end
+firsts : (b : List ℕ) (n k : ℕ) → list_all (λ i. zero_in b 128 (128 * i)) (range_with_len k n) ≡ zero_in b (128 * n) (128 * k)
 unfolding zero_in
-block_start b at = refl
-
-pub block_on : (b : List ℕ) (at j t w r : ℕ) → eqb t 0 ≡ zero_in b (8 * j) at → eqb w 0 ≡ zero_in b 8 (at + 8 * j)
-    → eqb r 0 ≡ pick (eqb t 0) (eqb w 0) false
-    → eqb r 0 ≡ zero_in b (8 * (j + 1)) at
-block_on b at j t w r p q e = let d : 8 * (j + 1) ≡ 8 * j + 8 = omega arith in e ∙ rw (p, q, d) (sym (in_split b (8 * j) 8 at))
-
-pub block_done : (b : List ℕ) (at j t : ℕ) → eqb t 0 ≡ zero_in b (8 * j) at → j ≤ 16 → 16 ≤ j → eqb t 0 ≡ zero_in b 128 at
-block_done b at j t p l h = let d : 8 * j ≡ 128 = omega arith in p ∙ ap (λ (x : ℕ). zero_in b x at) d
-
-pub greater_right : (x y : ℕ) → x < y → eqb y 0 ≡ pick (eqb x 0) (eqb y 0) false
-greater_right x y h = go (eqb x 0)
+firsts b zero k = refl
+firsts b (suc n) k =
+    let d : 128 * suc n ≡ 128 + 128 * n = omega arith in
+    let e : 128 * k + 128 ≡ 128 * (k + 1) = omega arith in
+    rw (d, in_split b 128 (128 * n) (128 * k), e, firsts b n (k + 1)) (and_pick (zero_in b 128 (128 * k)) (zero_in b (128 * n) (128 * (k + 1))))
   where
-    go : (t : Bool) → eqb y 0 ≡ pick t (eqb y 0) false
-    go true = refl
-    go false = ne_eqb y 0 (λ (e : y ≡ 0). omega arith)
+    and_pick : (x y : Bool) → (x && y) ≡ pick x y false
+    and_pick true y = refl
+    and_pick false y = refl
 
-pub greater_left : (x y : ℕ) → y ≤ x → eqb x 0 ≡ pick (eqb x 0) (eqb y 0) false
-greater_left x y h = go (eqb x 0) refl
+pub blocks_zero : (b : List ℕ) (n last : ℕ) → last ≤ 128 * n → 128 * n < last + 128 → last + 128 ≡ length b
+    → pick (list_all (λ i. zero_in b 128 (128 * i)) (range_with_len 0 n)) (zero_in b 128 last) false ≡ zero_from b 0
+unfolding zero_from
+blocks_zero b n last h k l =
+    let r : ℕ = 128 * n - last in
+    let d : length b - 0 ≡ last + 128 = omega arith in
+    let e : 128 * n ≡ last + r = omega arith in
+    let f : zero_in b 128 last ≡ pick (zero_in b r last) (zero_in b (128 - r) (last + r)) false =
+    ap (λ (m : ℕ). zero_in b m last) (omega arith) ∙ in_split b r (128 - r) last in
+    let g : zero_in b (128 * n) 0 ≡ pick (zero_in b last 0) (zero_in b r last) false = ap (λ (m : ℕ). zero_in b m 0) e ∙ in_split b last r 0
+    ∙ ap (λ (m : ℕ). pick (zero_in b last 0) (zero_in b r m) false) (omega arith) in
+    let z : 0 + last ≡ last = omega arith in
+    rw (firsts b n 0, d, in_split b last 128 0, z, g, f) (twice (zero_in b last 0) (zero_in b r last) (zero_in b (128 - r) (last + r)))
   where
-    go : (t : Bool) → eqb x 0 ≡ t → t ≡ pick t (eqb y 0) false
-    go true e = let z = eqb-true x 0 e in sym (eq-eqb y 0 (omega arith))
-    go false e = refl
-
-regroup : (a z r : Bool) → pick a (pick z r false) false ≡ pick (pick a z false) r false
-regroup true z r = refl
-regroup false z r = refl
-
-module _ (b : List ℕ) (at : ℕ) where
-  pub few_start : zero_from b at ≡ pick (eqb 0 0) (zero_in b (length b - at) at) false
-  unfolding zero_from
-  few_start = refl
-
-  few_turn : (i : ℕ) → i < length b → zero_in b (length b - i) i ≡ pick (eqb (byte_at b i) 0) (zero_in b (length b - (i + 1)) (i + 1)) false
-  few_turn i h =
-      let d : length b - i ≡ 1 + (length b - (i + 1)) = omega arith in
-      rw (d, in_split b 1 (length b - (i + 1)) i, one_byte b i) refl
-
-  module _ (most i : ℕ) (e : zero_from b at ≡ pick (eqb most 0) (zero_in b (length b - i) i) false) where
-    pub few_on : (next v : ℕ) → i < length b → v ≡ byte_at b i → eqb next 0 ≡ pick (eqb most 0) (eqb v 0) false
-        → zero_from b at ≡ pick (eqb next 0) (zero_in b (length b - (i + 1)) (i + 1)) false
-    few_on next v h p q =
-        e ∙ rw (few_turn i h, q, p) (regroup (eqb most 0) (eqb (byte_at b i) 0) (zero_in b (length b - (i + 1)) (i + 1)))
-
-    pub few_done : length b ≤ i → eqb most 0 ≡ zero_from b at
-    unfolding zero_in
-    few_done h = let d : length b - i ≡ 0 = omega arith in sym (e ∙ rw d (whole (eqb most 0)))
-
-  pub from_start : zero_in b (at - at) at ≡ true
-  unfolding zero_in
-  from_start = let d : at - at ≡ 0 = omega arith in rw d refl
-
-  pub from_on : (i w : ℕ) → at ≤ i → zero_in b (i - at) at ≡ true → eqb w 0 ≡ zero_in b 128 i → w ≤ 0 → zero_in b (i + 128 - at) at ≡ true
-  from_on i w l p q n =
-      let d : i + 128 - at ≡ (i - at) + 128 = omega arith in
-      let e : at + (i - at) ≡ i = omega arith in
-      rw (d, in_split b (i - at) 128 at, p, e, ← q, eq-eqb w 0 (omega arith)) refl
-
-  pub from_bad : (i last w : ℕ) → at ≤ i → i < last → last + 128 ≡ length b → zero_in b (i - at) at ≡ true
-      → eqb w 0 ≡ zero_in b 128 i → 0 < w → false ≡ zero_from b at
-  unfolding zero_from
-  from_bad i last w l h s p q n =
-      let d : length b - at ≡ (i - at) + (128 + (length b - (i + 128))) = omega arith in
-      let e : at + (i - at) ≡ i = omega arith in
-      rw (
-        d,
-        in_split b (i - at) (128 + (length b - (i + 128))) at,
-        p,
-        e,
-        in_split b 128 (length b - (i + 128)) i,
-        ← q,
-        ne_eqb w 0 (λ (z : w ≡ 0). omega arith),
-      ) refl
-
-  pub from_done : (i last w : ℕ) → at ≤ last → last ≤ i → last + 128 ≡ length b → zero_in b (i - at) at ≡ true
-      → eqb w 0 ≡ zero_in b 128 last → eqb w 0 ≡ zero_from b at
-  unfolding zero_from
-  from_done i last w l h s p q =
-      let d : length b - at ≡ (last - at) + 128 = omega arith in
-      let e : at + (last - at) ≡ last = omega arith in
-      let f : i - at ≡ (last - at) + (i - last) = omega arith in
-      q ∙ rw (d, in_split b (last - at) 128 at, e) (front (zero_in b (last - at) at) (zero_in b (i - last) (at + (last - at)))
-      (sym (in_split b (last - at) (i - last) at) ∙ sym (ap (λ (x : ℕ). zero_in b x at) f) ∙ p))
-    where
-      front : (x y : Bool) {z : Bool} → pick x y false ≡ true → z ≡ pick x z false
-      front true y h = refl
-      front false y h = let z : ◌≡◌ {A = ℕ} 0 1 = cc in absurd (omega arith)
-
--- ---- eight bytes as one number
-pub long_read : (b : List ℕ) (at n : ℕ)
-    → n ≡ byte_at b at + byte_at b (at + 1) * 256 + byte_at b (at + 2) * 65536 + byte_at b (at + 3) * 16777216 + byte_at b (at + 4) * 4294967296
-    + byte_at b (at + 5) * 1099511627776 + byte_at b (at + 6) * 281474976710656 + byte_at b (at + 7) * 72057594037927936
-    → n ≡ long_at b at
-unfolding long_at
-long_read b at n e = e
+    twice : (x y z : Bool) → pick (pick x y false) (pick y z false) false ≡ pick x (pick y z false) false
+    twice true true z = refl
+    twice true false z = refl
+    twice false y z = refl
 
 -- ---- a part of the bytes
 shifted : (b : List ℕ) (s n i : ℕ) → each (is_zero (drop s b)) (numbers n i) ≡ each (is_zero b) (numbers n (s + i))

@@ -1,21 +1,15 @@
-use borrow.Author.Rules.{rules}
-use mathlib.Core.Path.{refl}
-use Rattle.p6_zeros.proofs.Zeros.{few_start, few_on, few_done}
+use Rattle.std.proofs.Common.{◌≡◌, length, rules, refl, arith}
+use Rattle.p6_zeros.specs.Mirror.{zero_in, zero_from}
+use Rattle.p6_zeros.proofs.Zeros.{run_on, one_byte}
 use Rattle.p6_zeros.proofs.few_zero.Goals as goal
 
-ruleset answers = (rules, few_start, few_on, few_done, refl)
+pub loop-x-init : goal.loop-x-init
+unfolding zero_in
+loop-x-init c = refl
 
-pub loop-i-init : goal.loop-i-init
-loop-i-init c = search answers
-
-pub greater-most-requires : goal.greater-most-requires
-greater-most-requires c = search answers
-
-pub loop-i-smaller : goal.loop-i-smaller
-loop-i-smaller c = search answers
-
-pub loop-i-preserved : goal.loop-i-preserved
-loop-i-preserved c = search answers
+pub loop-x-preserved : goal.loop-x-preserved
+loop-x-preserved c = search (rules, run_on, one_byte)
 
 pub returns : goal.returns
-returns c = search answers
+unfolding zero_from
+returns c = let e : c.loop-x.x-index ≡ length c.args.b.now = omega arith in search rules

@@ -1,11 +1,7 @@
-use borrow.Author.Rules.{rules}
-use Rattle.p6_zeros.proofs.Zeros.{long_read}
+use Rattle.std.proofs.Common.{rules}
+use Rattle.p6_zeros.specs.Mirror.{long_at}
 use Rattle.p6_zeros.proofs.long_at.Goals as goal
 
-ruleset answers = (rules, long_read)
-
-pub eight-requires : goal.eight-requires
-eight-requires c = search answers
-
 pub returns : goal.returns
-returns c = search answers
+unfolding long_at
+returns c = search rules
