@@ -4,10 +4,10 @@
 
 ghost use Rattle.std.specs.Prelude.{ℕ, ◌/◌, ◌%◌, ◌^◌, ◌≤◌, ◌<◌, ◌≡◌, eqb};
 ghost use Rattle.p0_choice.specs.Choice.{among};
-ghost use Rattle.p1_letters.specs.Mirror.{first_foreign};
+ghost use Rattle.p1_letters.specs.Mirror.{column_asked};
 ghost use Rattle.p1_letters.specs.Alphabet.{small_by32, small_by1, small_next, is_capital, in_alphabet, all_letters, is_white_space};
 ghost use Rattle.p1_letters.specs.Alphabet.{is_separator, ascii_lower, ascii_upper, lower as lower_of, upper as upper_of};
-ghost use Rattle.p1_letters.specs.Tones.{tone_column, tone_on, tone_off};
+ghost use Rattle.p1_letters.specs.Tones.{tone_on, tone_off};
 ghost use Rattle.p1_letters.specs.Vowels.{vowels, is_vowel, is_spelling_vowel};
 
 use p1_tone_block as tones;
@@ -26,23 +26,18 @@ const BY_32: u32 = 0x263c370f;
 fn is_small_by_32(x: u32) -> bool
     ensures { result ≡ among x small_by32 }
 {
-    if x < 0xe0 {
-        return false;
+    match x {
+        0xe0..=0xff => bit(BY_32, x),
+        _ => false,
     }
-    if 0xff < x {
-        return false;
-    }
-    bit(BY_32, x)
 }
 
 // ă đ ĩ ũ ơ ư, whose capitals are 1 less.
+#[tactic(auto, unfolding(crate::specs::Alphabet::small_by1, p0_choice::specs::Text::word))]
 fn is_small_by_1(x: u32) -> bool
     ensures { result ≡ among x small_by1 }
 {
-    match x {
-        0x103 | 0x111 | 0x129 | 0x169 | 0x1a1 | 0x1b0 => true,
-        _ => false,
-    }
+    matches!(x, 0x103 | 0x111 | 0x129 | 0x169 | 0x1a1 | 0x1b0)
 }
 
 // These and the odd code points of U+1EA1 to U+1EF9: the small letters whose capitals are 1 less.
@@ -109,40 +104,20 @@ pub fn in_alphabet(x: u32) -> bool
     bit(letters_in(x / 32), x)
 }
 
-// The place of the first letter outside the alphabet; where there is none, the length.
-fn first_foreign(s: &[u32]) -> usize
-    ensures { result ≡ first_foreign s.now }
-{
-    let mut i: usize = 0;
-    while i < s.len() {
-        if !in_alphabet(s[i]) {
-            return i;
-        }
-        i += 1;
-    }
-    i
-}
-
 pub fn all_letters(s: &[u32]) -> bool
     ensures { result ≡ all_letters s.now }
 {
-    let at = first_foreign(s);
-    at == s.len()
+    s.iter().all(|x| in_alphabet(*x))
 }
 
+#[tactic(auto, unfolding(crate::specs::Alphabet::is_white_space))]
 pub fn is_white_space(x: u32) -> bool
     ensures { result ≡ is_white_space x }
 {
-    if x == 0x20 {
-        return true;
-    }
-    if x < 0x09 {
-        return false;
-    }
-    x <= 0x0d
+    matches!(x, 0x09..=0x0d | 0x20)
 }
 
-// White space or . , ! ? ; : with : and ; in two arms, as they are neighbours.
+// White space or . , ! ? ; : with : and ; in two arms, as they are neighbours, which in one would be a range.
 pub fn is_separator(x: u32) -> bool
     ensures { result ≡ is_separator x }
 {
@@ -156,28 +131,24 @@ pub fn is_separator(x: u32) -> bool
     }
 }
 
+#[tactic(auto, unfolding(crate::specs::Alphabet::ascii_lower, crate::specs::Alphabet::is_ascii_capital))]
 pub fn ascii_lower(x: u32) -> u32
     ensures { result ≡ ascii_lower x }
 {
-    if x < 65 {
-        return x;
+    match x {
+        65..=90 => x + 32,
+        _ => x,
     }
-    if x <= 90 {
-        return x + 32;
-    }
-    x
 }
 
+#[tactic(auto, unfolding(crate::specs::Alphabet::ascii_upper))]
 pub fn ascii_upper(x: u32) -> u32
     ensures { result ≡ ascii_upper x }
 {
-    if x < 97 {
-        return x;
+    match x {
+        97..=122 => x - 32,
+        _ => x,
     }
-    if x <= 122 {
-        return x - 32;
-    }
-    x
 }
 
 pub fn lower(x: u32) -> u32
@@ -213,23 +184,18 @@ pub fn upper(x: u32) -> u32
 // The columns of the letters from f to x, three bits each: f 2, j 5, r 3, s 1, x 4, and 0 for the others.
 const KEYS: u64 = 0x10000b000005002;
 
-// The column that a tone key asks for, 0 for what is no tone key.
-fn column_of(tone: u32) -> u8
-    ensures { result ≡ tone_column tone }
+// The column that a tone key asks for.
+fn column_of(tone: u32) -> Option<u8>
+    ensures { result ≡ column_asked tone }
 {
-    if tone < 49 {
-        return 0;
+    match tone {
+        49..=53 => Some((tone - 48) as u8),
+        102..=120 => {
+            let column = ((KEYS >> (3 * (tone - 102))) % 8) as u8;
+            if column == 0 { None } else { Some(column) }
+        }
+        _ => None,
     }
-    if tone <= 53 {
-        return (tone - 48) as u8;
-    }
-    if tone < 102 {
-        return 0;
-    }
-    if 120 < tone {
-        return 0;
-    }
-    ((KEYS >> (3 * (tone - 102))) % 8) as u8
 }
 
 // Tone on, as the Rust: a capital vowel gives the small toned letter, which stands in the vowel's row and the tone's column.
@@ -240,11 +206,10 @@ pub fn apply_tone_to_char(ch: u32, tone: u32) -> u32
     if !is_small_vowel(l) {
         return ch;
     }
-    let column = column_of(tone);
-    if column == 0 {
-        return ch;
+    match column_of(tone) {
+        Some(column) => u32::from(tones::letter_at(tones::letter_place(l) + column)),
+        None => ch,
     }
-    tones::letter_at(tones::letter_place(l) + column) as u32
 }
 
 // Tone off: the vowel at the head of the row. Most letters stand below à, where none has a tone, and are not looked up.
@@ -255,22 +220,22 @@ pub fn strip_tone(c: u32) -> u32
         return c;
     }
     let place = tones::letter_place(c);
-    let found = tones::letter_at(place) as u32;
+    let found = u32::from(tones::letter_at(place));
     if found == c {
-        return tones::letter_at(place / tones::WIDTH * tones::WIDTH) as u32;
+        return u32::from(tones::letter_at(place / tones::WIDTH * tones::WIDTH));
     }
     c
 }
 
 // One of the twelve small vowels.
+#[tactic(auto, unfolding(crate::specs::Vowels::vowels, p0_choice::specs::Text::word))]
 pub fn is_small_vowel(x: u32) -> bool
     ensures { result ≡ among x vowels }
 {
-    match x {
-        0x61 | 0x65 | 0x69 | 0x6f | 0x75 | 0x79 | 0xe2 | 0xea | 0xf4 | 0x103 | 0x1a1 | 0x1b0 =>
-            true,
-        _ => false,
-    }
+    matches!(
+        x,
+        0x61 | 0x65 | 0x69 | 0x6f | 0x75 | 0x79 | 0xe2 | 0xea | 0xf4 | 0x103 | 0x1a1 | 0x1b0
+    )
 }
 
 // The composer's test.
