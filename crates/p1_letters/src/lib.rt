@@ -2,9 +2,9 @@
 // tests (port order 1). Every function takes every u32; what is no letter is left as it is.
 #![tactic(auto)]
 
-ghost use Rattle.std.specs.Prelude.{ℕ, ◌/◌, ◌%◌, ◌^◌, ◌≤◌, ◌<◌, ◌≡◌, eqb};
+ghost use Rattle.std.specs.Prelude.{◌/◌, ◌%◌, ◌^◌, ◌≡◌, eqb};
 ghost use Rattle.p0_choice.specs.Choice.{among};
-ghost use Rattle.p1_letters.specs.Mirror.{column_asked};
+ghost use Rattle.p1_letters.specs.Mirror.{column_asked, in_blocks};
 ghost use Rattle.p1_letters.specs.Alphabet.{small_by32, small_by1, small_next, is_capital, in_alphabet, all_letters, is_white_space};
 ghost use Rattle.p1_letters.specs.Alphabet.{is_separator, ascii_lower, ascii_upper, lower as lower_of, upper as upper_of};
 ghost use Rattle.p1_letters.specs.Tones.{tone_on, tone_off};
@@ -12,7 +12,7 @@ ghost use Rattle.p1_letters.specs.Vowels.{vowels, is_vowel, is_spelling_vowel};
 
 use p1_tone_block as tones;
 
-// Code points in blocks of 32, each block a number whose lowest bit stands for the block's first code point.
+// A block of 32 code points as a number, whose lowest bit stands for the block's first code point.
 fn bit(block: u32, x: u32) -> bool
     ensures { result ≡ eqb (block / 2 ^ (x % 32) % 2) 1 }
 {
@@ -72,24 +72,21 @@ pub fn is_capital(x: u32) -> bool
     is_small_next(x + 1)
 }
 
-// The letters of a block between ASCII and U+1EA0. The arms answer numbers, which the compiler keeps as a table of 8; yes
-// or no by code point would be a jump for each of the 209 from à to ư.
-fn letters_in(block: u32) -> u32
-    ensures { (x : ℕ) → 0x80 ≤ x → x < 0x1ea0 → x / 32 ≡ block → eqb (result / 2 ^ (x % 32) % 2) 1 ≡ in_alphabet x }
+// Blocks of 32 code points up to U+01BF: the letters outside ASCII that stand there. There are none from there to U+1EA0.
+const LETTERS: &[u32; 14] = &[
+    // À to ÿ
+    0, 0, 0, 0, 0, 0, BY_32, BY_32,
+    // Ă ă Đ đ, Ĩ ĩ, Ũ ũ, Ơ ơ Ư ư
+    0x0003000c, 0x00000300, 0, 0x00000300, 0, 0x00018003,
+];
+
+// Whether a code point is among those of such blocks; past them there are none.
+#[tactic(auto, unfolding(crate::specs::Mirror::in_blocks))]
+fn in_blocks(blocks: &[u32; 14], x: u32) -> bool
+    ensures { result ≡ in_blocks blocks.now x }
 {
-    match block {
-        6 => BY_32,
-        7 => BY_32,
-        // Ă ă Đ đ
-        8 => 0x0003000c,
-        // Ĩ ĩ
-        9 => 0x00000300,
-        // Ũ ũ
-        11 => 0x00000300,
-        // Ơ ơ Ư ư
-        13 => 0x00018003,
-        _ => 0,
-    }
+    let block = blocks.get((x / 32) as usize).copied().unwrap_or(0);
+    bit(block, x)
 }
 
 pub fn in_alphabet(x: u32) -> bool
@@ -101,7 +98,7 @@ pub fn in_alphabet(x: u32) -> bool
     if 0x1ea0 <= x {
         return x <= 0x1ef9;
     }
-    bit(letters_in(x / 32), x)
+    in_blocks(LETTERS, x)
 }
 
 pub fn all_letters(s: &[u32]) -> bool
@@ -118,6 +115,7 @@ pub fn is_white_space(x: u32) -> bool
 }
 
 // White space or . , ! ? ; : with : and ; in two arms, as they are neighbours, which in one would be a range.
+#[tactic(auto, unfolding(crate::specs::Alphabet::is_separator, p0_choice::specs::Text::word))]
 pub fn is_separator(x: u32) -> bool
     ensures { result ≡ is_separator x }
 {
@@ -245,32 +243,20 @@ pub fn is_vowel(ch: u32) -> bool
     is_small_vowel(ascii_lower(ch))
 }
 
-// The speller's vowels of a block below U+1EA0.
-fn spelling_vowels_in(block: u32) -> u32
-    ensures { (x : ℕ) → x < 0x1ea0 → x / 32 ≡ block → eqb (result / 2 ^ (x % 32) % 2) 1 ≡ is_spelling_vowel x }
-{
-    match block {
-        // a e i o u y
-        3 => 0x02208222,
-        7 => BY_32,
-        // ă
-        8 => 0x00000008,
-        // ĩ
-        9 => 0x00000200,
-        // ũ
-        11 => 0x00000200,
-        // ơ ư
-        13 => 0x00010002,
-        _ => 0,
-    }
-}
+// Blocks of 32 code points up to U+01BF: the speller's vowels that stand there. There are none from there to U+1EA0.
+const SPELLING_VOWELS: &[u32; 14] = &[
+    // a e i o u y
+    0, 0, 0, 0x02208222, 0, 0, 0,
+    // à to ý, ă, ĩ, ũ, ơ ư
+    BY_32, 0x00000008, 0x00000200, 0, 0x00000200, 0, 0x00010002,
+];
 
 // The speller's test: 27 letters below U+1EA0, and the small ones from there on.
 pub fn is_spelling_vowel(c: u32) -> bool
     ensures { result ≡ is_spelling_vowel c }
 {
     if c < 0x1ea0 {
-        return bit(spelling_vowels_in(c / 32), c);
+        return in_blocks(SPELLING_VOWELS, c);
     }
     if 0x1ef9 < c {
         return false;
