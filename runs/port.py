@@ -38,6 +38,7 @@ def without_contracts(text):
     """Rattle's code as Rust: contracts, their `ghost use` and what speaks to the prover taken off."""
     text = re.sub(r"^(?:ghost use [^;]*;|#!\[tactic\(.*\)\])\n", "", text, flags=re.M)
     text = re.sub(r"^\s*#\[(?:tactic|cycle)\(.*\)\]\n", "", text, flags=re.M)
+    text = re.sub(r"^\s*ghost [^;{]*\{[^{}]*\};\n", "", text, flags=re.M)
     kept, at = [], 0
     for clause in re.finditer(r"\n\s*(?:requires|ensures)(?: \w+)? \{", text):
         if clause.start() < at:
