@@ -3,7 +3,7 @@
 #![tactic(auto)]
 
 ghost use Rattle.std.specs.Prelude.{◌≡◌, true, [], ◌∷◌, ◌++◌, ◌+◌, ◌≤◌, ◌<◌, get_or, length, take, drop};
-ghost use Rattle.p5_utf8.specs.Rfc3629.{is_scalar, encode, utf8_2, utf8_3, utf8_4, begins, character, char_of, char_at};
+ghost use Rattle.p5_utf8.specs.Rfc3629.{is_scalar, encode, bits2, bits3, utf8_2, utf8_3, utf8_4, begins, character, char_of, char_at};
 
 // A character that stands at a place of bytes: a Unicode scalar value, and the number of its bytes.
 #[derive(Clone, Copy, Debug, PartialEq, Eq)]
@@ -47,7 +47,23 @@ fn is_four(a: u8, b: u8, c: u8, d: u8) -> bool
     )
 }
 
-#[tactic(auto, using(crate::proofs::Grammar::lead_2), unfolding(crate::specs::Rfc3629::bits2))]
+// The code point of two bytes.
+#[tactic(auto, unfolding(crate::specs::Rfc3629::bits2))]
+pub fn bits2(a: u8, b: u8) -> u32
+    ensures { result ≡ bits2 (a ∷ b ∷ []) }
+{
+    u32::from(a) % 32 * 64 + u32::from(b) % 64
+}
+
+// The code point of three bytes.
+#[tactic(auto, unfolding(crate::specs::Rfc3629::bits3))]
+pub fn bits3(a: u8, b: u8, c: u8) -> u32
+    ensures { result ≡ bits3 (a ∷ b ∷ c ∷ []) }
+{
+    u32::from(a) % 16 * 4096 + u32::from(b) % 64 * 64 + u32::from(c) % 64
+}
+
+#[tactic(auto, using(crate::proofs::Grammar::lead_2))]
 fn two(a: u8, b: u8) -> Option<Char>
     requires { (0xc2 ≤ a) × (a < 0xe0) }
     ensures { result ≡ char_of (a ∷ b ∷ []) }
@@ -55,11 +71,13 @@ fn two(a: u8, b: u8) -> Option<Char>
     if !is_two(a, b) {
         return None;
     }
-    let scalar = u32::from(a) % 32 * 64 + u32::from(b) % 64;
-    Some(Char { scalar, width: 2 })
+    Some(Char {
+        scalar: bits2(a, b),
+        width: 2,
+    })
 }
 
-#[tactic(auto, using(crate::proofs::Grammar::lead_3), unfolding(crate::specs::Rfc3629::bits3))]
+#[tactic(auto, using(crate::proofs::Grammar::lead_3))]
 fn three(a: u8, b: u8, c: u8) -> Option<Char>
     requires { (0xe0 ≤ a) × (a < 0xf0) }
     ensures { result ≡ char_of (a ∷ b ∷ c ∷ []) }
@@ -67,8 +85,10 @@ fn three(a: u8, b: u8, c: u8) -> Option<Char>
     if !is_three(a, b, c) {
         return None;
     }
-    let scalar = u32::from(a) % 16 * 4096 + u32::from(b) % 64 * 64 + u32::from(c) % 64;
-    Some(Char { scalar, width: 3 })
+    Some(Char {
+        scalar: bits3(a, b, c),
+        width: 3,
+    })
 }
 
 #[tactic(auto, using(crate::proofs::Grammar::lead_4), unfolding(crate::specs::Rfc3629::bits4))]
