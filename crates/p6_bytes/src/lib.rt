@@ -1,7 +1,9 @@
 // The composition as bytes, for a host in C: read, tested and written. docs/BYTES.md states their order.
 #![tactic(auto)]
 
-ghost use Rattle.std.specs.Prelude.{◌≡◌, true, ◌<◌, ◌≤◌};
+ghost use Rattle.std.specs.Prelude.{◌≡◌, true, false, ◌<◌, ◌≤◌, MatchOption};
+ghost use Rattle.std.specs.Borrow.{sem};
+ghost use Rattle.p6_bytes.specs.Lending.{LendsBytes};
 ghost use Rattle.p3_cells.specs.Cells.{limit};
 ghost use Rattle.p3_cells.specs.Mirror.{cell_of};
 ghost use Rattle.p3_cells.specs.Text.{shown as shown_of};
@@ -108,15 +110,31 @@ pub fn is_sound(b: &[u8; SIZE]) -> bool
     head_fits(b) && n <= cells::LIMIT && cells_fit(b, n) && zeros::all_zero(&b[HEAD + 8 * n..])
 }
 
-// The bytes of a sound composition.
-#[tactic(auto, using(crate::proofs::Sound::no_size))]
 pub fn bytes_ok(b: &[u8]) -> bool
     ensures { result ≡ bytes_sound b.now }
 {
-    match b.as_array() {
-        Some(b) => is_sound(b),
-        None => false,
+    checked(b).is_some()
+}
+
+// The bytes of a sound composition, or none where they are those of no such one.
+#[tactic(auto, using(crate::proofs::Sound::no_size))]
+pub fn checked(b: &[u8]) -> Option<&[u8; SIZE]>
+    ensures { MatchOption result (bytes_sound b.now ≡ false) (λ s. (s.now ≡ b.now) × (bytes_sound b.now ≡ true)) }
+{
+    let b = b.as_array()?;
+    if is_sound(b) { Some(b) } else { None }
+}
+
+// The same, to be written.
+#[tactic(auto, using(crate::proofs::Sound::no_size))]
+pub fn checked_mut(b: &mut [u8]) -> Option<&mut [u8; SIZE]>
+    ensures* writes_back { sem 𝓛 (LendsBytes b.entry result) }
+    ensures cases { MatchOption result (bytes_sound b.old ≡ false) (λ s. (s.now ≡ b.old) × (bytes_sound b.old ≡ true)) }
+{
+    if !bytes_ok(b) {
+        return None;
     }
+    b.as_mut_array()
 }
 
 // ---- its settings and numbers, each of which is one byte
