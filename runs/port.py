@@ -34,19 +34,44 @@ def crates():
     return ordered
 
 
+# Comments, strings and characters: no word or bracket of theirs is Rattle's.
+TEXTS = re.compile(r"""//[^\n]*|"(?:\\.|[^"\\])*"|'(?:\\[^'\n]+|[^'\\\n])'""")
+
+# What only the prover reads, up to the bracket that it opens: a clause, a ghost member, field or value, an attribute; or whole.
+GHOST = re.compile(r"""
+    \s*\b ghost\ use\b [^;]* ;
+  | \s*\b (?P<member> (?:pub\ )? ghost\b [^{;]* \{ )
+  | \s*\b (?:requires|ensures)\b [^{;]* \{
+  | \s* \#!?\[ (?=(?:tactic|cycle|rattlefmt)\b)
+""", re.X)
+
+# What may follow a member's first braces: the proof beside a field, a member's default, and the end.
+MORE = re.compile(r"\s*(?:by|=) (?P<braces>\{)|[;,]")
+
+
+def closing(text, at):
+    """Behind the bracket that closes the one before `at`."""
+    opened = text[at - 1]
+    closed, depth = {"{": "}", "[": "]"}[opened], 1
+    while depth:
+        depth += (text[at] == opened) - (text[at] == closed)
+        at += 1
+    return at
+
+
 def without_contracts(text):
     """Rattle's code as Rust: contracts, their `ghost use` and what speaks to the prover taken off."""
-    text = re.sub(r"^(?:ghost use [^;]*;|#!\[tactic\(.*\)\])\n", "", text, flags=re.M)
-    text = re.sub(r"^\s*#\[(?:tactic|cycle)\(.*\)\]\n", "", text, flags=re.M)
+    bare = TEXTS.sub(lambda found: "_" * len(found[0]), text)
     kept, at = [], 0
-    for clause in re.finditer(r"\n\s*(?:requires|ensures)(?: \w+)? \{", text):
-        if clause.start() < at:
+    for ghost in GHOST.finditer(bare):
+        if ghost.start() < at:
             continue
-        kept.append(text[at : clause.start()])
-        depth, at = 1, clause.end()
-        while depth:
-            depth += {"{": 1, "}": -1}.get(text[at], 0)
-            at += 1
+        kept.append(text[at : ghost.start()])
+        at = ghost.end()
+        if bare[at - 1] != ";":
+            at = closing(bare, at)
+        while ghost["member"] and (more := MORE.match(bare, at)):
+            at = closing(bare, more.end()) if more["braces"] else more.end()
     return "".join(kept) + text[at:]
 
 

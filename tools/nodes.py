@@ -176,9 +176,8 @@ listing = trie_at nodes root_node
 
 
 def function(numbers):
-    arms = "\n".join(f"        {i} => {n}," for i, n in enumerate(numbers))
-    return f"""// The table of nodes that specs/Mirror.antt of p5_listing defines, as arms that the compiler makes a constant table of; one
-// function alone calls it, so that the table is read where it is used. Written by tools/nodes.py.
+    return f"""// The table of nodes that specs/Mirror.antt of p5_listing defines, read where it lies; one function alone calls `entry`. Written
+// by tools/nodes.py.
 #![tactic(auto)]
 
 ghost use Rattle.std.specs.Prelude.{{◌≡◌}};
@@ -189,35 +188,29 @@ pub const COUNT: usize = {len(numbers)};
 
 pub const ROOT: usize = 0;
 
+const ENTRIES: &[u32; COUNT] = &[
+{lines(numbers, "{},", 8)}
+];
+
 // The node's entry, 0 for none.
 pub fn entry(e: usize) -> u32
     ensures {{ result ≡ entry_at e }}
 {{
-    match e {{
-{arms}
-        _ => 0,
-    }}
+    ENTRIES.get(e).copied().unwrap_or(0)
 }}
 """
 
 
-def proof(numbers):
-    goals = [(f"in-{i}", f"arm entry_at {n} _ {i} c.in-{i}.is refl") for i, n in enumerate(numbers)]
-    goals.append(("in_default", "none_there _ (past_table _ node_count _ c.in_default.in_default-own.rest)"))
-    answers = [f"pub returns-{name} : goal.returns-{name}\nunfolding entry_at entries\nreturns-{name} c = {answer}\n" for name, answer in goals]
-    return f"""-- Each arm answers its number of the list. Written by tools/nodes.py.
-use Prim.Native.Nat.{{ℕ, ◌≤◌}}
-use mathlib.Core.Path.{{◌≡◌, refl, sym}}
-use lib.ListN.{{get_or-eq_default}}
-use Rattle.p0_choice.proofs.Arms.{{arm, past_table}}
-use Rattle.p5_listing.specs.Mirror.{{node_count, entries, entry_at}}
+def proof():
+    return """-- The table is the list. Written by tools/nodes.py.
+use Rattle.std.proofs.Common.{rules}
+use Rattle.p5_listing.specs.Mirror.{entries, entry_at}
 use Rattle.p5_nodes.proofs.entry.Goals as goal
 
-none_there : (e : ℕ) → node_count ≤ e → 0 ≡ entry_at e
+pub returns : goal.returns
 unfolding entry_at entries
-none_there e h = sym (get_or-eq_default entries 0 h)
-
-{chr(10).join(answers)}"""
+returns c = search rules
+"""
 
 
 def main():
@@ -231,7 +224,7 @@ def main():
     for path, text in (
         ("crates/p5_listing/specs/Mirror.antt", definitions(numbers)),
         ("crates/p5_nodes/src/lib.rt", function(numbers)),
-        ("crates/p5_nodes/proofs/entry/Answers.antt", proof(numbers)),
+        ("crates/p5_nodes/proofs/entry/Answers.antt", proof()),
     ):
         file = HOME / path
         if "--check" not in sys.argv:

@@ -8,6 +8,11 @@ import re
 ROOT = pathlib.Path(__file__).resolve().parent.parent
 
 FN = re.compile(r'^[ \t]*(?P<pub>pub )?(?P<ext>extern "C" )?fn (?P<name>\w+)', re.M)
+# a conversion, whose promise is a fact about what is given and what it becomes
+CONVERSION = re.compile(
+    r"^impl (?P<trait>From|TryFrom)<(?P<given>\w+)> for (?P<made>\w+) \{(?P<said>(?:(?!^\}).)*?)fn (?:from|try_from)\(", re.M | re.S
+)
+GIVES = re.compile(r"ghost (?:try_)?from_gives = \{ λ \w+ (?P<result>\w+)\. (?P<fact>.*?) \};", re.S)
 # .. up to its clauses or its body
 SIGNATURE = re.compile(r"(?:(?!\s(?:requires|ensures)\b)[^{])*")
 CLAUSE = re.compile(r"\s*(requires|ensures)\b\s*\w*\s*\{")
@@ -99,8 +104,23 @@ def facts(clause):
     return found
 
 
+def words_of(name):
+    """A type's name in lower-case words, with _ between."""
+    return re.sub(r"(?<!^)(?=[A-Z])", "_", name).lower()
+
+
+class Conversion(Function):
+    """`impl From<A> for B` promises as a function does; it stands here as b_from_a, or b_try_from_a."""
+
+    def __init__(self, crate, match):
+        says = GIVES.search(match["said"])
+        fact = " ".join(re.sub(rf"\b{says['result']}\b", "result", says["fact"]).split()) if says else None
+        name = f"{words_of(match['made'])}_{words_of(match['trait'])}_{words_of(match['given'])}"
+        super().__init__(crate, {"name": name, "pub": True, "ext": None}, "->", [], [fact] if fact else [], False)
+
+
 def functions(crate, root=ROOT):
-    """All functions of a crate, in the order of its files."""
+    """All functions of a crate, in the order of its files, and its conversions."""
     found = []
     for path in sorted((root / "crates" / crate).glob("src/**/*.rt")):
         text = re.sub(r"//[^\n]*", "", path.read_text(encoding="utf-8"))
@@ -108,6 +128,7 @@ def functions(crate, root=ROOT):
             signature = SIGNATURE.match(text, match.end())
             said = clauses(text, signature.end())
             found.append(Function(crate, match, signature[0], said["requires"], said["ensures"], path.name == "main.rt"))
+        found += [Conversion(crate, match) for match in CONVERSION.finditer(text)]
     return found
 
 

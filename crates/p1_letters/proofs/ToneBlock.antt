@@ -1,4 +1,5 @@
 -- Tone on and tone off as they are read off the block of p1_tone_block.
+use Rattle.std.specs.Prelude.{Option, None, Some}
 use Prim.Native.Nat.{ℕ, ◌+◌, ◌-◌, ◌*◌, ◌/◌, ◌%◌, ◌^◌, ◌<◌, ◌≤◌}
 use mathlib.Core.Path.{◌≡◌, refl, sym, ap, ◌∙◌}
 use mathlib.Core.Bool.{Bool, true, false, not}
@@ -7,7 +8,7 @@ use mathlib.Core.Logic.{⊎_elim}
 use native.Mathlib.Omega.{arith}
 use lib.Dec.{T, ltb, leb, eqb}
 use lib.ListN.{get_or}
-use borrow.Author.Tests.{eqb-true, ltb-true, lt-leb, ne_eqb, not-true, not-false}
+use borrow.Author.Tests.{eqb-true, eqb-false, ltb-true, lt-leb, ne_eqb, not-true, not-false}
 use Rattle.p0_choice.specs.Choice.{pick, among, each, from}
 use Rattle.p0_choice.specs.Text.{word}
 use Rattle.p0_choice.proofs.Choices.{picks}
@@ -16,6 +17,7 @@ use Rattle.p0_choice.proofs.Tables.{each_among, each_count, among_above}
 use Rattle.p0_choice.proofs.Tests.{holds}
 use Rattle.p1_letters.specs.Alphabet.{ascii_lower, is_ascii_capital}
 use Rattle.p1_letters.specs.Tones.{tone_rows, tone_column, row_of, tone_from, tone_on, off_in, tone_off}
+use Rattle.p1_letters.specs.Mirror.{column_asked}
 use Rattle.p1_letters.specs.Vowels.{vowels, is_vowel}
 use Rattle.p1_letters.proofs.Tones.{from_none, toned, off_rows}
 use Rattle.p1_letters.proofs.ToneOn.{keys, no_column, tone_leaves}
@@ -48,24 +50,7 @@ range_right : (t : ℕ) → t ≤ 120 → by_range t ≡ tone_column t
 unfolding by_range tone_column word
 range_right t h = eqb-true _ _ (each_count (λ (k : ℕ). eqb (by_range k) (tone_column k)) 121 0 tt t (omega arith) (omega arith))
 
-module _ (t : ℕ) where
-  pub column_low : t < 49 → 0 ≡ tone_column t
-  unfolding by_range
-  column_low h = rw (← range_right t (omega arith)) (search picks)
-
-  pub column_digit : 49 ≤ t → t ≤ 53 → t - 48 ≡ tone_column t
-  unfolding by_range
-  column_digit l h = rw (← range_right t (omega arith)) (search picks)
-
-  pub column_between : 49 ≤ t → 53 < t → t < 102 → 0 ≡ tone_column t
-  unfolding by_range
-  column_between k l h = rw (← range_right t (omega arith)) (search picks)
-
-  pub column_letter : 49 ≤ t → 53 < t → 102 ≤ t → t ≤ 120 → 0x10000b000005002 / 2 ^ (3 * (t - 102)) % 8 ≡ tone_column t
-  unfolding by_range
-  column_letter j k l h = rw (← range_right t h) (search picks)
-
-pub column_past : (t : ℕ) → 120 < t → 0 ≡ tone_column t
+column_past : (t : ℕ) → 120 < t → 0 ≡ tone_column t
 unfolding keys word
 column_past t h = no_column t t (among_above keys 120 tt t h)
 
@@ -76,18 +61,79 @@ column_below t =
     (λ (h : t < 121). ltb-true _ _ (each_count (λ (k : ℕ). ltb (tone_column k) 6) 121 0 tt t (omega arith) (omega arith)))
     (λ (h : 121 ≤ t). rw (← column_past t (omega arith)) (omega arith)) (below_or_not t 121)
 
+-- what is asked for, by the column
+asked : (t c : ℕ) → c ≡ tone_column t → (c ≡ 0 → ⊥) → Some c ≡ column_asked t
+unfolding column_asked
+asked t c e z = rw (← e) (search picks)
+
+none_asked : (t c : ℕ) → c ≡ tone_column t → c ≡ 0 → None ≡ column_asked t
+unfolding column_asked
+none_asked t c e z = rw (← e) (search picks)
+
+pub asked_column : (t c : ℕ) → Some c ≡ column_asked t → (c ≡ tone_column t) × (c ≡ 0 → ⊥)
+unfolding column_asked
+asked_column t c = go (tone_column t) (eqb (tone_column t) 0) refl
+  where
+    go : (k : ℕ) (b : Bool) → eqb k 0 ≡ b → Some c ≡ pick b None (Some k) → (c ≡ k) × (c ≡ 0 → ⊥)
+    go k true e q = let z : ◌≡◌ {A = ℕ} 0 1 = cc in absurd (omega arith)
+    go k false e q = let d : c ≡ k = cc in (d, λ z. eqb-false k 0 e (sym d ∙ z))
+
+pub none_column : (t : ℕ) → None ≡ column_asked t → tone_column t ≡ 0
+unfolding column_asked
+none_column t = go (tone_column t) (eqb (tone_column t) 0) refl
+  where
+    go : (k : ℕ) (b : Bool) → eqb k 0 ≡ b → ◌≡◌ {A = Option ℕ} None (pick b None (Some k)) → k ≡ 0
+    go k true e q = eqb-true k 0 e
+    go k false e q = let z : ◌≡◌ {A = ℕ} 0 1 = cc in absurd (omega arith)
+
+module _ (t : ℕ) where
+  column_low : t < 49 → 0 ≡ tone_column t
+  unfolding by_range
+  column_low h = rw (← range_right t (omega arith)) (search picks)
+
+  column_digit : 49 ≤ t → t ≤ 53 → t - 48 ≡ tone_column t
+  unfolding by_range
+  column_digit l h = rw (← range_right t (omega arith)) (search picks)
+
+  column_between : 49 ≤ t → 53 < t → t < 102 → 0 ≡ tone_column t
+  unfolding by_range
+  column_between k l h = rw (← range_right t (omega arith)) (search picks)
+
+  column_letter : 102 ≤ t → t ≤ 120 → 0x10000b000005002 / 2 ^ (3 * (t - 102)) % 8 ≡ tone_column t
+  unfolding by_range
+  column_letter k h =
+      let i : 49 ≤ t = omega arith in let j : 53 < t = omega arith in rw (← range_right t h) (search picks)
+
+  pub asked_digit : 49 ≤ t → t ≤ 53 → Some (t - 48) ≡ column_asked t
+  asked_digit l h = asked t (t - 48) (column_digit l h) (omega arith)
+
+  pub asked_letter : (c : ℕ) → 102 ≤ t → t ≤ 120 → c ≡ 0x10000b000005002 / 2 ^ (3 * (t - 102)) % 8 → (c ≡ 0 → ⊥) → Some c ≡ column_asked t
+  asked_letter c k h e z = asked t c (e ∙ column_letter k h) z
+
+  pub no_letter : (c : ℕ) → 102 ≤ t → t ≤ 120 → c ≡ 0x10000b000005002 / 2 ^ (3 * (t - 102)) % 8 → c ≡ 0 → None ≡ column_asked t
+  no_letter c k h e z = none_asked t c (e ∙ column_letter k h) z
+
+  pub no_low : t < 49 → None ≡ column_asked t
+  no_low h = none_asked t 0 (column_low h) refl
+
+  pub no_between : 53 < t → t < 102 → None ≡ column_asked t
+  no_between l h = none_asked t 0 (column_between (omega arith) l h) refl
+
+  pub no_past : 120 < t → None ≡ column_asked t
+  no_past h = none_asked t 0 (column_past t h) refl
+
 -- ---- tone on
 pub on_apart : (x t l : ℕ) (v : Bool) → l ≡ ascii_lower x → v ≡ among l vowels → not v ≡ true → x ≡ tone_on x t
 unfolding is_vowel
 on_apart x t l v e q n = sym (tone_leaves x t (rw (← e) (sym q ∙ not-true v n)))
 
-pub on_no_key : (x t c : ℕ) → c ≡ tone_column t → c ≡ 0 → x ≡ tone_on x t
+pub on_no_key : (x t : ℕ) → None ≡ column_asked t → x ≡ tone_on x t
 unfolding tone_on
-on_no_key x t c e z = from_none x t (row_of tone_rows (ascii_lower x)) (sym z ∙ e)
+on_no_key x t e = from_none x t (row_of tone_rows (ascii_lower x)) (sym (none_column t e))
 
 -- the sum of the row's place and the column is a place too
-pub on_place : (x t p c : ℕ) → p ≡ letter_place x → c ≡ tone_column t → p + c < 256
-on_place x t p c a f = rw (a, f) (omega (arith, place_below x, column_below t))
+pub on_place : (x t p c : ℕ) → p ≡ letter_place x → Some c ≡ column_asked t → p + c < 256
+on_place x t p c a q = let f = (asked_column t c q).0 in rw (a, f) (omega (arith, place_below x, column_below t))
 
 -- the letter in the vowel's row and a column
 in_row : ℕ → ℕ → Bool
@@ -103,9 +149,11 @@ unfolding in_row
 row_right x c v l h = eqb-true _ _ (each_count (in_row x) 5 1 (holds _ (rows_test x v)) c (omega arith) (omega arith))
 
 pub on_found : (x t l p c r : ℕ) (v : Bool) → l ≡ ascii_lower x → v ≡ among l vowels → not v ≡ false → p ≡ letter_place l
-    → c ≡ tone_column t → (c ≡ 0 → ⊥) → r ≡ letter_at (p + c) → r ≡ tone_on x t
+    → Some c ≡ column_asked t → r ≡ letter_at (p + c) → r ≡ tone_on x t
 unfolding tone_on tone_from is_vowel
-on_found x t l p c r v e q n a f z h =
+on_found x t l p c r v e q n a k h =
+    let f = (asked_column t c k).0 in
+    let z = (asked_column t c k).1 in
     rw (← f, ne_eqb c 0 z) (h ∙ rw (a, e) (row_right x c (rw (← e) (sym q ∙ not-false v n)) (omega arith) (rw f (column_below t))))
 
 -- ---- tone off

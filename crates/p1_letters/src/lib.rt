@@ -2,17 +2,17 @@
 // tests (port order 1). Every function takes every u32; what is no letter is left as it is.
 #![tactic(auto)]
 
-ghost use Rattle.std.specs.Prelude.{ℕ, ◌/◌, ◌%◌, ◌^◌, ◌≤◌, ◌<◌, ◌≡◌, eqb};
+ghost use Rattle.std.specs.Prelude.{◌/◌, ◌%◌, ◌^◌, ◌≡◌, eqb};
 ghost use Rattle.p0_choice.specs.Choice.{among};
-ghost use Rattle.p1_letters.specs.Mirror.{first_foreign};
+ghost use Rattle.p1_letters.specs.Mirror.{column_asked, in_blocks};
 ghost use Rattle.p1_letters.specs.Alphabet.{small_by32, small_by1, small_next, is_capital, in_alphabet, all_letters, is_white_space};
 ghost use Rattle.p1_letters.specs.Alphabet.{is_separator, ascii_lower, ascii_upper, lower as lower_of, upper as upper_of};
-ghost use Rattle.p1_letters.specs.Tones.{tone_column, tone_on, tone_off};
+ghost use Rattle.p1_letters.specs.Tones.{tone_on, tone_off};
 ghost use Rattle.p1_letters.specs.Vowels.{vowels, is_vowel, is_spelling_vowel};
 
 use p1_tone_block as tones;
 
-// Code points in blocks of 32, each block a number whose lowest bit stands for the block's first code point.
+// A block of 32 code points as a number, whose lowest bit stands for the block's first code point.
 fn bit(block: u32, x: u32) -> bool
     ensures { result ≡ eqb (block / 2 ^ (x % 32) % 2) 1 }
 {
@@ -26,23 +26,18 @@ const BY_32: u32 = 0x263c370f;
 fn is_small_by_32(x: u32) -> bool
     ensures { result ≡ among x small_by32 }
 {
-    if x < 0xe0 {
-        return false;
+    match x {
+        0xe0..=0xff => bit(BY_32, x),
+        _ => false,
     }
-    if 0xff < x {
-        return false;
-    }
-    bit(BY_32, x)
 }
 
 // ă đ ĩ ũ ơ ư, whose capitals are 1 less.
+#[tactic(auto, unfolding(crate::specs::Alphabet::small_by1, p0_choice::specs::Text::word))]
 fn is_small_by_1(x: u32) -> bool
     ensures { result ≡ among x small_by1 }
 {
-    match x {
-        0x103 | 0x111 | 0x129 | 0x169 | 0x1a1 | 0x1b0 => true,
-        _ => false,
-    }
+    matches!(x, 0x103 | 0x111 | 0x129 | 0x169 | 0x1a1 | 0x1b0)
 }
 
 // These and the odd code points of U+1EA1 to U+1EF9: the small letters whose capitals are 1 less.
@@ -77,24 +72,21 @@ pub fn is_capital(x: u32) -> bool
     is_small_next(x + 1)
 }
 
-// The letters of a block between ASCII and U+1EA0. The arms answer numbers, which the compiler keeps as a table of 8; yes
-// or no by code point would be a jump for each of the 209 from à to ư.
-fn letters_in(block: u32) -> u32
-    ensures { (x : ℕ) → 0x80 ≤ x → x < 0x1ea0 → x / 32 ≡ block → eqb (result / 2 ^ (x % 32) % 2) 1 ≡ in_alphabet x }
+// Blocks of 32 code points up to U+01BF: the letters outside ASCII that stand there. There are none from there to U+1EA0.
+const LETTERS: &[u32; 14] = &[
+    // À to ÿ
+    0, 0, 0, 0, 0, 0, BY_32, BY_32,
+    // Ă ă Đ đ, Ĩ ĩ, Ũ ũ, Ơ ơ Ư ư
+    0x0003000c, 0x00000300, 0, 0x00000300, 0, 0x00018003,
+];
+
+// Whether a code point is among those of such blocks; past them there are none.
+#[tactic(auto, unfolding(crate::specs::Mirror::in_blocks))]
+fn in_blocks(blocks: &[u32; 14], x: u32) -> bool
+    ensures { result ≡ in_blocks blocks.now x }
 {
-    match block {
-        6 => BY_32,
-        7 => BY_32,
-        // Ă ă Đ đ
-        8 => 0x0003000c,
-        // Ĩ ĩ
-        9 => 0x00000300,
-        // Ũ ũ
-        11 => 0x00000300,
-        // Ơ ơ Ư ư
-        13 => 0x00018003,
-        _ => 0,
-    }
+    let block = blocks.get((x / 32) as usize).copied().unwrap_or(0);
+    bit(block, x)
 }
 
 pub fn in_alphabet(x: u32) -> bool
@@ -106,43 +98,24 @@ pub fn in_alphabet(x: u32) -> bool
     if 0x1ea0 <= x {
         return x <= 0x1ef9;
     }
-    bit(letters_in(x / 32), x)
-}
-
-// The place of the first letter outside the alphabet; where there is none, the length.
-fn first_foreign(s: &[u32]) -> usize
-    ensures { result ≡ first_foreign s.now }
-{
-    let mut i: usize = 0;
-    while i < s.len() {
-        if !in_alphabet(s[i]) {
-            return i;
-        }
-        i += 1;
-    }
-    i
+    in_blocks(LETTERS, x)
 }
 
 pub fn all_letters(s: &[u32]) -> bool
     ensures { result ≡ all_letters s.now }
 {
-    let at = first_foreign(s);
-    at == s.len()
+    s.iter().all(|x| in_alphabet(*x))
 }
 
+#[tactic(auto, unfolding(crate::specs::Alphabet::is_white_space))]
 pub fn is_white_space(x: u32) -> bool
     ensures { result ≡ is_white_space x }
 {
-    if x == 0x20 {
-        return true;
-    }
-    if x < 0x09 {
-        return false;
-    }
-    x <= 0x0d
+    matches!(x, 0x09..=0x0d | 0x20)
 }
 
-// White space or . , ! ? ; : with : and ; in two arms, as they are neighbours.
+// White space or . , ! ? ; : with : and ; in two arms, as they are neighbours, which in one would be a range.
+#[tactic(auto, unfolding(crate::specs::Alphabet::is_separator, p0_choice::specs::Text::word))]
 pub fn is_separator(x: u32) -> bool
     ensures { result ≡ is_separator x }
 {
@@ -156,28 +129,24 @@ pub fn is_separator(x: u32) -> bool
     }
 }
 
+#[tactic(auto, unfolding(crate::specs::Alphabet::ascii_lower, crate::specs::Alphabet::is_ascii_capital))]
 pub fn ascii_lower(x: u32) -> u32
     ensures { result ≡ ascii_lower x }
 {
-    if x < 65 {
-        return x;
+    match x {
+        65..=90 => x + 32,
+        _ => x,
     }
-    if x <= 90 {
-        return x + 32;
-    }
-    x
 }
 
+#[tactic(auto, unfolding(crate::specs::Alphabet::ascii_upper))]
 pub fn ascii_upper(x: u32) -> u32
     ensures { result ≡ ascii_upper x }
 {
-    if x < 97 {
-        return x;
+    match x {
+        97..=122 => x - 32,
+        _ => x,
     }
-    if x <= 122 {
-        return x - 32;
-    }
-    x
 }
 
 pub fn lower(x: u32) -> u32
@@ -213,23 +182,18 @@ pub fn upper(x: u32) -> u32
 // The columns of the letters from f to x, three bits each: f 2, j 5, r 3, s 1, x 4, and 0 for the others.
 const KEYS: u64 = 0x10000b000005002;
 
-// The column that a tone key asks for, 0 for what is no tone key.
-fn column_of(tone: u32) -> u8
-    ensures { result ≡ tone_column tone }
+// The column that a tone key asks for.
+fn column_of(tone: u32) -> Option<u8>
+    ensures { result ≡ column_asked tone }
 {
-    if tone < 49 {
-        return 0;
+    match tone {
+        49..=53 => Some((tone - 48) as u8),
+        102..=120 => {
+            let column = ((KEYS >> (3 * (tone - 102))) % 8) as u8;
+            if column == 0 { None } else { Some(column) }
+        }
+        _ => None,
     }
-    if tone <= 53 {
-        return (tone - 48) as u8;
-    }
-    if tone < 102 {
-        return 0;
-    }
-    if 120 < tone {
-        return 0;
-    }
-    ((KEYS >> (3 * (tone - 102))) % 8) as u8
 }
 
 // Tone on, as the Rust: a capital vowel gives the small toned letter, which stands in the vowel's row and the tone's column.
@@ -240,11 +204,10 @@ pub fn apply_tone_to_char(ch: u32, tone: u32) -> u32
     if !is_small_vowel(l) {
         return ch;
     }
-    let column = column_of(tone);
-    if column == 0 {
-        return ch;
+    match column_of(tone) {
+        Some(column) => u32::from(tones::letter_at(tones::letter_place(l) + column)),
+        None => ch,
     }
-    tones::letter_at(tones::letter_place(l) + column) as u32
 }
 
 // Tone off: the vowel at the head of the row. Most letters stand below à, where none has a tone, and are not looked up.
@@ -255,22 +218,22 @@ pub fn strip_tone(c: u32) -> u32
         return c;
     }
     let place = tones::letter_place(c);
-    let found = tones::letter_at(place) as u32;
+    let found = u32::from(tones::letter_at(place));
     if found == c {
-        return tones::letter_at(place / tones::WIDTH * tones::WIDTH) as u32;
+        return u32::from(tones::letter_at(place / tones::WIDTH * tones::WIDTH));
     }
     c
 }
 
 // One of the twelve small vowels.
+#[tactic(auto, unfolding(crate::specs::Vowels::vowels, p0_choice::specs::Text::word))]
 pub fn is_small_vowel(x: u32) -> bool
     ensures { result ≡ among x vowels }
 {
-    match x {
-        0x61 | 0x65 | 0x69 | 0x6f | 0x75 | 0x79 | 0xe2 | 0xea | 0xf4 | 0x103 | 0x1a1 | 0x1b0 =>
-            true,
-        _ => false,
-    }
+    matches!(
+        x,
+        0x61 | 0x65 | 0x69 | 0x6f | 0x75 | 0x79 | 0xe2 | 0xea | 0xf4 | 0x103 | 0x1a1 | 0x1b0
+    )
 }
 
 // The composer's test.
@@ -280,32 +243,20 @@ pub fn is_vowel(ch: u32) -> bool
     is_small_vowel(ascii_lower(ch))
 }
 
-// The speller's vowels of a block below U+1EA0.
-fn spelling_vowels_in(block: u32) -> u32
-    ensures { (x : ℕ) → x < 0x1ea0 → x / 32 ≡ block → eqb (result / 2 ^ (x % 32) % 2) 1 ≡ is_spelling_vowel x }
-{
-    match block {
-        // a e i o u y
-        3 => 0x02208222,
-        7 => BY_32,
-        // ă
-        8 => 0x00000008,
-        // ĩ
-        9 => 0x00000200,
-        // ũ
-        11 => 0x00000200,
-        // ơ ư
-        13 => 0x00010002,
-        _ => 0,
-    }
-}
+// Blocks of 32 code points up to U+01BF: the speller's vowels that stand there. There are none from there to U+1EA0.
+const SPELLING_VOWELS: &[u32; 14] = &[
+    // a e i o u y
+    0, 0, 0, 0x02208222, 0, 0, 0,
+    // à to ý, ă, ĩ, ũ, ơ ư
+    BY_32, 0x00000008, 0x00000200, 0, 0x00000200, 0, 0x00010002,
+];
 
 // The speller's test: 27 letters below U+1EA0, and the small ones from there on.
 pub fn is_spelling_vowel(c: u32) -> bool
     ensures { result ≡ is_spelling_vowel c }
 {
     if c < 0x1ea0 {
-        return bit(spelling_vowels_in(c / 32), c);
+        return in_blocks(SPELLING_VOWELS, c);
     }
     if 0x1ef9 < c {
         return false;

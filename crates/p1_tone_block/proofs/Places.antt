@@ -1,40 +1,29 @@
 -- Where a letter stands in the block: its slot stands for its place, and no other letter is found there.
-use Prim.Native.Nat.{ℕ, suc, ◌+◌, ◌<◌, ◌≤◌}
+use Prim.Native.Nat.{ℕ, suc, ◌+◌, ◌%◌, ◌<◌, ◌≤◌}
 use mathlib.Core.Path.{◌≡◌, refl, sym, ap, ◌∙◌}
-use mathlib.Core.Bool.{Bool, true, false}
+use mathlib.Core.Bool.{Bool, true}
 use mathlib.Core.List.{List, [], ◌∷◌, map}
 use native.Mathlib.Omega.{arith}
 use lib.Dec.{T, eqb}
-use lib.ListN.{length, get_or-eq_default}
+use Rattle.std.specs.List.{range_with_len}
+use Rattle.std.proofs.lemmas.List.FromFn.{get_or-map-range_with_len}
+use lib.ListN.{get_or, length}
 use borrow.Author.Tests.{eqb-true}
-use Rattle.p0_choice.specs.Choice.{pick, among, each, from}
+use Rattle.p0_choice.specs.Choice.{among, each}
 use Rattle.p0_choice.specs.Text.{word}
 use Rattle.p0_choice.proofs.Choices.{pick_both}
-use Rattle.p0_choice.proofs.Arms.{Missed, single, missed_single, past_table}
 use Rattle.p0_choice.proofs.Tables.{each_among, each_count}
 use Rattle.p1_tone_block.specs.Mirror.{tone_block, letter_at, slot_of, place_in, letter_place}
 
--- ---- the last arms
+-- ---- the places by their slots
 block_length : length tone_block ≡ 72
 unfolding tone_block word
 block_length = refl
 
-pub past_block : (N : Type 0) (place : ℕ) → Missed N (map single (from 72 0)) place → 0 ≡ letter_at place
-unfolding letter_at
-past_block N place m = sym (get_or-eq_default tone_block 0 (rw block_length (past_table N 72 place m)))
-
-in_none : (n : ℕ) (xs : List ℕ) (slot : ℕ) → among slot (map slot_of xs) ≡ false → 0 ≡ place_in n xs slot
-unfolding place_in
-in_none n [] slot e = refl
-in_none n (x ∷ xs) slot e = go (in_none (suc n) xs slot) (eqb slot (slot_of x)) e
-  where
-    go : (among slot (map slot_of xs) ≡ false → 0 ≡ place_in (suc n) xs slot) → (b : Bool) → pick b true (among slot (map slot_of xs)) ≡ false
-        → 0 ≡ pick b n (place_in (suc n) xs slot)
-    go f true q = let z : ◌≡◌ {A = ℕ} 1 0 = ap (λ (b : Bool). pick b 1 0) q in absurd (omega arith)
-    go f false q = f q
-
-pub no_slot : (N : Type 0) (slot : ℕ) → Missed N (map single (map slot_of tone_block)) slot → 0 ≡ place_in 0 tone_block slot
-no_slot N slot m = in_none 0 tone_block slot (missed_single N (map slot_of tone_block) slot m)
+-- the place in a table of the places of all slots
+pub by_slot : (places : List ℕ) (n : ℕ) → places ≡ map (place_in 0 tone_block) (range_with_len 0 128)
+    → get_or places (n % 128) 0 ≡ place_in 0 tone_block (n % 128)
+by_slot places n e = rw e (get_or-map-range_with_len (place_in 0 tone_block) 0 128 (n % 128) (n % 128) 0 (omega arith) (omega arith))
 
 -- ---- a place is in the block
 in_below : (n : ℕ) (xs : List ℕ) (slot m : ℕ) → 0 < m → n + length xs ≤ m → place_in n xs slot < m

@@ -45,7 +45,12 @@ pub fn is_tone_key(m: InputMethod, k: u32) -> bool
     ensures { result ≡ is_tone_key m k }
 {
     match m {
-        InputMethod::Telex => matches!(k, 102 | 106 | 114 | 115 | 120),
+        // r and s are neighbours: in one arm they would be a range, whose test comes after that of the others.
+        InputMethod::Telex => match k {
+            102 | 106 | 114 | 120 => true,
+            115 => true,
+            _ => false,
+        },
         InputMethod::Vni => matches!(k, 49..=53),
     }
 }

@@ -1,7 +1,7 @@
 -- The setting itself: off at first; its own call leaves the cells, and setting it twice is setting it once; every other call keeps
 -- it. And the calls that request 2026-01 does not widen do not look at it: under the one setting they answer what they answer
 -- under the other, and leave what they leave there.
-use Rattle.std.specs.Prelude.{Err, Ok, Result}
+use Rattle.std.specs.Prelude.{None, Option, Some, Err, Ok, Result}
 use Rattle.p0_refusals.specs.declared.Refusal.{Refusal}
 use Prim.Native.Nat.{ℕ}
 use mathlib.Core.Path.{◌≡◌, refl, sym, ap, ◌∙◌}
@@ -36,7 +36,7 @@ use Rattle.p3_undo.specs.Call.{not_undone, undo_found, undo_telex}
 use Rattle.p3_undo.specs.Raw.{raw_lowered}
 use Rattle.p3_undo.specs.Undo.{to_undo}
 use Rattle.p3_undo.specs.declared.Undoing.{Undoing}
-use Rattle.p3_undo.specs.declared.Undoing.TheVariants.{Nothing, Tone, Mark}
+use Rattle.p3_undo.specs.declared.Undoing.TheVariants.{Tone, Mark}
 use Rattle.p3_capitals.specs.Apart.{under, left_under, undone_under}
 
 -- ---- "off at first"
@@ -105,11 +105,11 @@ module _ (on : Bool) (c : Composition) where
   unfolding step_of uo_step ua_step mark_step tone_for uo_for ua_for
   step_blind cs k = refl
 
-  found_blind : (u : Undoing) → undo_found (under on c) u ≡ undone_under on (undo_found c u)
+  found_blind : (u : Option Undoing) → undo_found (under on c) u ≡ undone_under on (undo_found c u)
   unfolding undo_found used composed
-  found_blind Nothing = refl
-  found_blind (Tone i) = refl
-  found_blind (Mark i r) = refl
+  found_blind None = refl
+  found_blind (Some (Tone i)) = refl
+  found_blind (Some (Mark i r)) = refl
 
   -- undo, "capital if flagged" under both
   pub undo_blind : (t : ℕ) (raw : List ℕ) → undo_telex (under on c) t raw ≡ undone_under on (undo_telex c t raw)
@@ -117,7 +117,7 @@ module _ (on : Bool) (c : Composition) where
   undo_blind t raw =
       go (is_sound c) (ltb letter_limit (length raw)) (in_alphabet t) (all_letters raw)
     where
-      u : Undoing
+      u : Option Undoing
       u = to_undo c.settings.method (used c) (raw_lowered raw) (ascii_lower t)
 
       go : (s l a b : Bool)
@@ -194,17 +194,17 @@ module _ (c : Composition) where
   unfolding enabled_set
   mode_keeps v = leaving_keeps (Kept c) (answer (settled c) 0) c _ refl (λ k e. turned_keeps v)
 
-  found_keeps : (u : Undoing) → Kept c (undo_found c u).comp
+  found_keeps : (u : Option Undoing) → Kept c (undo_found c u).comp
   unfolding undo_found composed
-  found_keeps Nothing = refl
-  found_keeps (Tone i) = refl
-  found_keeps (Mark i r) = refl
+  found_keeps None = refl
+  found_keeps (Some (Tone i)) = refl
+  found_keeps (Some (Mark i r)) = refl
 
   pub undo_keeps : (t : ℕ) (raw : List ℕ) → Kept c (undo_telex c t raw).comp
   unfolding undo_telex
   undo_keeps t raw = go (is_sound c) (ltb letter_limit (length raw)) (in_alphabet t) (all_letters raw)
     where
-      u : Undoing
+      u : Option Undoing
       u = to_undo c.settings.method (used c) (raw_lowered raw) (ascii_lower t)
 
       go : (s l a b : Bool)

@@ -8,7 +8,7 @@ use borrow.Author.Tests.{ne_eqb, eq-eqb, ltb-true}
 use Rattle.p0_choice.specs.Choice.{pick, among}
 use Rattle.p0_choice.specs.Text.{word}
 use Rattle.p0_choice.proofs.Tables.{each_among}
-use Rattle.p1_letters.specs.Alphabet.{in_alphabet, is_capital, is_small, small_by32, small_by1, small_next, small_high}
+use Rattle.p1_letters.specs.Alphabet.{in_alphabet, is_small, small_by32, small_by1, small_next, small_high}
 use Rattle.p2_input_method.specs.Rules.{tone_keys, is_tone_key, mark_rule, mark_rules, mark_for}
 use Rattle.p2_input_method.specs.declared.InputMethod.{InputMethod}
 use Rattle.p2_input_method.proofs.Rules.{tone_key_passes, mark_passes}
@@ -51,11 +51,6 @@ mark_for_mark m b k h = go (mark_passes (λ (x : ℕ). pick (eqb x 0) true (amon
     go q = rw (ne_eqb (mark_for m b k) 0 h) at q
 
 -- ---- the cells that are made
--- a letter as typed
-pub typed_by : (l : ℕ) (u : Bool) → u ≡ is_capital l → record { base = l; mark = 0; tone = 0; upper = u } ≡ typed l
-unfolding typed
-typed_by l u e = rw e refl
-
 pub typed_cell_lem : (l : ℕ) → in_alphabet l ≡ true → is_cell (typed l) ≡ true
 unfolding typed
 typed_cell_lem l e = is_cell_lem (typed l) (record { base = e; mark = inl refl; tone = inl refl })

@@ -7,7 +7,9 @@ use mathlib.Core.List.{List, [], ◌∷◌, ◌++◌}
 use native.Mathlib.Omega.{arith}
 use native.Mathlib.Numerals.{add-one}
 use lib.Dec.{eqb}
-use lib.ListN.{length, get_or}
+use lib.ListN.{length, get_or, take, drop}
+use Rattle.std.proofs.Common.{length-drop}
+use Rattle.std.proofs.lemmas.List.{length-take-le, get_or-take, get_or-drop}
 use borrow.Author.Tests.{eqb-true, eqb-false, eq-eqb, ne_eqb, le-leb, lt-leb, not-true, not-false}
 use Rattle.p0_choice.specs.Choice.{pick, among, each, from}
 use Rattle.p0_choice.specs.Text.{word}
@@ -35,36 +37,18 @@ among_join x (y ∷ ys) zs = go (eqb x y) (among_join x ys zs)
     go true e = refl
     go false e = e
 
-tone_keys_lem : (t : ℕ) → among t tones ≡ pick (is_tone_key Telex t) true (is_tone_key Vni t)
+pub tone_keys_lem : (t : ℕ) → among t tones ≡ pick (is_tone_key Telex t) true (is_tone_key Vni t)
 unfolding tones is_tone_key tone_keys word
 tone_keys_lem t = among_join t (tone_keys Telex) (tone_keys Vni)
 
-pub tone_none : (x : Cell) → x.tone ≡ 0 → true ≡ tone_fits x
-unfolding tone_fits
-tone_none x e = rw (eq-eqb x.tone 0 e) refl
-
-module _ (x : Cell) (u : Bool) (h : x.tone ≡ 0 → ⊥) (e : u ≡ is_tone_key Telex x.tone) where
-  pub tone_telex : u ≡ true → true ≡ tone_fits x
-  unfolding tone_fits
-  tone_telex q = rw (ne_eqb x.tone 0 h, tone_keys_lem x.tone, ← e, q) refl
-
-  pub tone_vni : (v : Bool) → u ≡ false → v ≡ is_tone_key Vni x.tone → v ≡ tone_fits x
-  unfolding tone_fits
-  tone_vni v q f = rw (ne_eqb x.tone 0 h, tone_keys_lem x.tone, ← e, q) f
-
 -- ---- a cell in use
-module _ (x : Cell) (t : Bool) (e : t ≡ tone_fits x) where
-  pub cell_toneless : x.mark ≡ 0 → not t ≡ true → false ≡ is_cell x
-  unfolding is_cell mark_fits
-  cell_toneless m q = rw (eq-eqb x.mark 0 m, ← e, not-true t q) (none (in_alphabet x.base))
-
-  pub cell_plain : (u : Bool) → x.mark ≡ 0 → not t ≡ false → u ≡ in_alphabet x.base → u ≡ is_cell x
-  unfolding is_cell mark_fits
-  cell_plain u m q f = rw (eq-eqb x.mark 0 m, ← e, not-false t q, ← f) (same u)
-    where
-      same : (b : Bool) → b ≡ pick b true false
-      same true = refl
-      same false = refl
+pub cell_plain : (x : Cell) (t : Bool) → t ≡ tone_fits x → (u : Bool) → x.mark ≡ 0 → not t ≡ false → u ≡ in_alphabet x.base → u ≡ is_cell x
+unfolding is_cell mark_fits
+cell_plain x t e u m q f = rw (eq-eqb x.mark 0 m, ← e, not-false t q, ← f) (same u)
+  where
+    same : (b : Bool) → b ≡ pick b true false
+    same true = refl
+    same false = refl
 
 pub cell_other : (x : Cell) → (x.mark ≡ 0 → ⊥) → (x.mark ≡ x.base → ⊥) → false ≡ is_cell x
 unfolding is_cell mark_fits
@@ -131,39 +115,62 @@ pub sound_start : (c : Composition) → length c.cells ≡ limit → c.count ≤
 unfolding is_sound fits_from
 sound_start c n l = rw (eq-eqb (length c.cells) limit n, le-leb c.count limit l) refl
 
-module _ (c : Composition) (s v : Bool) (i : ℕ) (e : s ≡ fits_from c i) (l : i < c.count) (h : c.count ≤ limit)
-    (p : v ≡ is_cell (get_or c.cells i blank)) where
-  step : s ≡ pick v (fits_from c (i + 1)) false
-  step = e ∙ turn c i (omega arith) ∙ ap (λ (b : Bool). pick b (fits_from c (i + 1)) false) (fits_used c.cells c.count i l ∙ sym p)
-
-  pub used_bad : not v ≡ true → false ≡ s
-  used_bad q = sym (step ∙ rw (not-true v q) refl)
-
-  pub used_on : not v ≡ false → s ≡ fits_from c (i + 1)
-  used_on q = step ∙ rw (not-false v q) refl
-
--- t is the sum so far
-pub past_start : (c : Composition) (s : Bool) (i : ℕ) → s ≡ fits_from c i → s ≡ pick (eqb 0 0) (fits_from c i) false
-past_start c s i e = e
-
 pub heavy : (a : ℕ) (b : Bool) → (a ≡ 0 → ⊥) → pick (eqb a 0) b false ≡ false
 heavy a b h = rw (ne_eqb a 0 h) refl
 
-module _ (c : Composition) (s : Bool) (i t : ℕ) (e : s ≡ pick (eqb t 0) (fits_from c i) false) where
-  pub past_on : (w : ℕ) → c.count ≤ i → i < limit → eqb w 0 ≡ is_blank (get_or c.cells i blank)
-      → s ≡ pick (eqb (t + w) 0) (fits_from c (i + 1)) false
-  past_on w l h q = go t e
-    where
-      go : (t : ℕ) → s ≡ pick (eqb t 0) (fits_from c i) false → s ≡ pick (eqb (t + w) 0) (fits_from c (i + 1)) false
-      go zero e =
-          let d : 0 + w ≡ w = omega arith in
-          rw d (e ∙ turn c i h ∙ ap (λ (b : Bool). pick b (fits_from c (i + 1)) false) (fits_past c.cells c.count i l ∙ sym q))
-      go (suc t) e = e ∙ heavy (suc t) (fits_from c i) (λ z. omega arith) ∙ sym (heavy (suc t + w) (fits_from c (i + 1)) (λ z. omega arith))
+-- the array parted at the count: the cells in use are tested one by one, and of those past them t is the sum so far
+module _ (c : Composition) (h : c.count ≤ limit) (n : length c.cells ≡ limit) where
+  used_in : (front : List Cell) → front ≡ take c.count c.cells → length front ≡ c.count
+  used_in front f = rw f (length-take-le c.count c.cells (omega arith))
 
-  pub past_end : limit ≤ i → eqb t 0 ≡ s
-  unfolding fits_from
-  past_end l = let d : limit - i ≡ 0 = omega arith in rw (e, d) (same (eqb t 0))
-    where
-      same : (b : Bool) → b ≡ pick b true false
-      same true = refl
-      same false = refl
+  module _ (front : List Cell) (f : front ≡ take c.count c.cells) (i : ℕ) (l : i < length front) (s v : Bool) (e : s ≡ fits_from c i)
+      (p : v ≡ is_cell (get_or front i blank)) where
+    step : s ≡ pick v (fits_from c (i + 1)) false
+    step =
+        let m : i < c.count = omega (arith, used_in front f) in
+        let q : v ≡ is_cell (get_or c.cells i blank) = rw (f, get_or-take c.count c.cells i blank m) at p in
+        e ∙ turn c i (omega arith) ∙ ap (λ (b : Bool). pick b (fits_from c (i + 1)) false) (fits_used c.cells c.count i m ∙ sym q)
+
+    pub used_bad : not v ≡ true → false ≡ s
+    used_bad q = sym (step ∙ rw (not-true v q) refl)
+
+    pub used_on : not v ≡ false → s ≡ fits_from c (i + 1)
+    used_on q = step ∙ rw (not-false v q) refl
+
+  pub past_start : (front : List Cell) → front ≡ take c.count c.cells → (i : ℕ) → i ≤ length front → length front ≤ i → (s : Bool)
+      → s ≡ fits_from c i → s ≡ pick (eqb 0 0) (fits_from c (c.count + 0)) false
+  past_start front f i a b s e = let d : i ≡ c.count + 0 = omega (arith, used_in front f) in rw (← d) e
+
+  module _ (back : List Cell) (f : back ≡ drop c.count c.cells) (i t : ℕ) (s : Bool)
+      (e : s ≡ pick (eqb t 0) (fits_from c (c.count + i)) false) where
+    pub past_on : (w : ℕ) → i < length back → eqb w 0 ≡ is_blank (get_or back i blank)
+        → s ≡ pick (eqb (t + w) 0) (fits_from c (c.count + (i + 1))) false
+    past_on w l q = go t e
+      where
+        k : c.count + i < limit
+        k = let m = rw f at l in omega (arith, length-drop c.count c.cells)
+
+        r : eqb w 0 ≡ fits_at c.cells c.count (c.count + i)
+        r = rw (f, get_or-drop c.count c.cells i blank) at q ∙ sym (fits_past c.cells c.count (c.count + i) (omega arith))
+
+        a : c.count + (i + 1) ≡ c.count + i + 1
+        a = omega arith
+
+        go : (t : ℕ) → s ≡ pick (eqb t 0) (fits_from c (c.count + i)) false → s ≡ pick (eqb (t + w) 0) (fits_from c (c.count + (i + 1))) false
+        go zero e =
+            let d : 0 + w ≡ w = omega arith in
+            rw (d, a) (e ∙ turn c (c.count + i) k ∙ ap (λ (b : Bool). pick b (fits_from c (c.count + i + 1)) false) (sym r))
+        go (suc t) e =
+            e ∙ heavy (suc t) (fits_from c (c.count + i)) (λ z. omega arith)
+            ∙ sym (heavy (suc t + w) (fits_from c (c.count + (i + 1))) (λ z. omega arith))
+
+    pub past_end : length back ≤ i → eqb t 0 ≡ s
+    unfolding fits_from
+    past_end l =
+        let m = rw f at l in
+        let d : limit - (c.count + i) ≡ 0 = omega (arith, length-drop c.count c.cells) in
+        rw (e, d) (same (eqb t 0))
+      where
+        same : (b : Bool) → b ≡ pick b true false
+        same true = refl
+        same false = refl

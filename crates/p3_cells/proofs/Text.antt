@@ -6,32 +6,20 @@ use mathlib.Core.List.{List, [], ◌∷◌, ◌++◌, map}
 use native.Mathlib.Omega.{arith}
 use native.Mathlib.Numerals.{add-one}
 use lib.ListN.{length, get_or, take, drop, set, length-map}
-use borrow.Author.Tests.{eq-eqb, ne_eqb, not-true, not-false}
-use Rattle.p0_choice.proofs.Choices.{pick_true, pick_false}
-use Rattle.p1_letters.specs.Alphabet.{is_capital, ascii_upper, upper}
-use Rattle.p1_letters.specs.Tones.{tone_on}
+use Rattle.std.proofs.Math.Seq.{take-length}
+use Rattle.std.proofs.lemmas.List.{length-take-le}
+use borrow.Author.Tests.{not-true}
+use Rattle.p0_choice.proofs.Choices.{pick_false}
 use Rattle.p1_letters.proofs.ToneOn.{no_tone}
 use Rattle.p3_cells.specs.Cells.{limit, blank, used}
 use Rattle.p3_cells.specs.Mirror.{packed_cell, cell_of, first_text}
-use Rattle.p3_cells.specs.Text.{letter_of, toned_letter, flagged, shown, text_of}
+use Rattle.p3_cells.specs.Text.{letter_of, toned_letter, shown, text_of}
 use Rattle.p3_cells.specs.declared.Cell.{Cell}
 use Rattle.p3_cells.specs.declared.Composition.{Composition}
-
-pub letter_plain : (x : Cell) → x.mark ≡ 0 → x.base ≡ letter_of x
-unfolding letter_of
-letter_plain x e = rw (eq-eqb x.mark 0 e) refl
-
-pub letter_marked : (x : Cell) → (x.mark ≡ 0 → ⊥) → x.mark ≡ letter_of x
-unfolding letter_of
-letter_marked x h = rw (ne_eqb x.mark 0 h) refl
 
 pub toned_none : (x : Cell) (l : ℕ) → l ≡ letter_of x → x.tone ≡ 0 → l ≡ toned_letter x
 unfolding toned_letter
 toned_none x l e h = rw (← e, h) (sym (no_tone l))
-
-pub toned_some : (x : Cell) (l r : ℕ) → l ≡ letter_of x → r ≡ tone_on l x.tone → r ≡ toned_letter x
-unfolding toned_letter
-toned_some x l r e q = rw (← e) q
 
 -- ---- a cell as one number below 2^48
 flag_off : (x : Cell) → packed_cell x < 281474976710656 → x.upper ≡ false
@@ -46,29 +34,11 @@ tone_off_lem : (x : Cell) → packed_cell x < 281474976710656 → x.tone ≡ 0
 unfolding packed_cell
 tone_off_lem x h = omega arith
 
--- ---- a flagged letter
-module _ (k : Bool) (l : ℕ) where
-  pub flagged_on : (r : ℕ) → k ≡ true → r ≡ upper l → r ≡ flagged k l
-  unfolding flagged
-  flagged_on r h q = rw h q
-
-  pub flagged_capital : (v : Bool) → k ≡ false → v ≡ is_capital l → v ≡ true → l ≡ flagged k l
-  unfolding flagged
-  flagged_capital v h p q = rw (h, ← p, q) refl
-
-  pub flagged_tried : (v : Bool) (r : ℕ) → k ≡ false → v ≡ is_capital l → v ≡ false → r ≡ ascii_upper l → r ≡ flagged k l
-  unfolding flagged
-  flagged_tried v r h p q f = rw (h, ← p, q) f
-
 -- ---- a cell, under either setting
 module _ (k : Bool) (x : Cell) where
   pub shown_small : (t : ℕ) → t ≡ toned_letter x → not x.upper ≡ true → t ≡ shown k x
   unfolding shown
   shown_small t e h = rw (← e) (pick_false x.upper t _ t (not-true x.upper h) refl)
-
-  pub shown_flagged : (t r : ℕ) → t ≡ toned_letter x → not x.upper ≡ false → r ≡ flagged k t → r ≡ shown k x
-  unfolding shown
-  shown_flagged t r e h f = rw (← e) (pick_true x.upper r (flagged k t) t (not-false x.upper h) f)
 
   -- neither a tone nor a flag
   pub shown_bare : (l : ℕ) → x.tone ≡ 0 → x.upper ≡ false → l ≡ letter_of x → l ≡ shown k x
@@ -104,10 +74,21 @@ unfolding written_to text_of
 written_more c o out i v e q n h l m =
     rw (e, q, add-one i) (map_more (shown c.settings.capitals) c.cells o i (omega arith) (omega arith))
 
-pub written_all : (c : Composition) (o out : List ℕ) (i : ℕ) → out ≡ written_to c i o → i ≤ c.count → c.count ≤ i
+-- the letters of the first cells of a list are written, one more, and those of the cells in use
+pub text_more : (k : Bool) (xs : List Cell) (o out : List ℕ) (i v : ℕ) → out ≡ text_of k (take i xs) ++ drop i o
+    → v ≡ shown k (get_or xs i blank) → i < length xs → i < length o → set out i v ≡ text_of k (take (i + 1) xs) ++ drop (i + 1) o
+unfolding text_of
+text_more k xs o out i v e q h l = rw (e, q, add-one i) (map_more (shown k) xs o i h l)
+
+pub text_done : (c : Composition) (o out : List ℕ) (i : ℕ) → out ≡ text_of c.settings.capitals (take i (take c.count c.cells)) ++ drop i o
+    → length c.cells ≡ limit → c.count ≤ limit → i ≤ length (take c.count c.cells) → length (take c.count c.cells) ≤ i
     → out ≡ text_of c.settings.capitals (used c) ++ drop c.count o
-unfolding written_to used
-written_all c o out i e l h = let d : i ≡ c.count = omega arith in rw (← d) e
+unfolding used
+text_done c o out i e n h l m =
+    let d : length (take c.count c.cells) ≡ c.count = length-take-le c.count c.cells (omega arith) in
+    let j : i ≡ c.count = omega arith in
+    let t : take c.count (take c.count c.cells) ≡ take c.count c.cells = ap (λ (n : ℕ). take n (take c.count c.cells)) (sym d) ∙ take-length (take c.count c.cells) in
+    e ∙ rw (j, t) refl
 
 -- the length of an array of structs, from that of its list under a map
 pub length_under : {A B : Type 0} (f : A → B) (l : List A) (n : ℕ) → length (map f l) ≡ n → length l ≡ n

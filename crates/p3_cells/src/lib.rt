@@ -16,13 +16,21 @@ use p2_input_method::InputMethod;
 
 pub const LIMIT: usize = 96;
 
+// Where the fields of a cell stand in it as one number; its base stands at 1.
+const MARK_AT: u64 = 1 << 32;
+
+const TONE_AT: u64 = 1 << 48;
+
+const UPPER_AT: u64 = 1 << 56;
+
 #[derive(Clone, Copy)]
 pub enum Mode {
     Vietnamese,
     English,
 }
 
-// A typed letter. 0 stands for no mark and for no tone: neither a mark nor a tone key is U+0000.
+// A typed letter. 0 stands for no mark and for no tone, and no Option does: a cell has 8 bytes (docs/BYTES.md), which are tested
+// and copied as one number, and neither a mark nor a tone key is U+0000.
 #[derive(Clone, Copy)]
 pub struct Cell {
     pub base: u32,
@@ -67,150 +75,134 @@ pub fn blank() -> Cell
 }
 
 // The cell that a letter is appended as.
+#[tactic(auto, unfolding(crate::specs::Cells::typed))]
 pub fn typed(ch: u32) -> Cell
     ensures { result ≡ typed_cell ch }
 {
-    let capital = letters::is_capital(ch);
     Cell {
         base: ch,
-        mark: 0,
-        tone: 0,
-        upper: capital,
+        upper: letters::is_capital(ch),
+        ..blank()
     }
 }
 
 // ---- soundness
 
 // One of ă â ê ô ơ ư đ.
+#[tactic(auto, unfolding(crate::specs::Cells::marks, p0_choice::specs::Text::word))]
 pub fn is_mark(m: u16) -> bool
     ensures { result ≡ among m marks }
 {
-    match m {
-        0xe2 | 0xea | 0xf4 | 0x103 | 0x111 | 0x1a1 | 0x1b0 => true,
-        _ => false,
-    }
+    matches!(m, 0xe2 | 0xea | 0xf4 | 0x103 | 0x111 | 0x1a1 | 0x1b0)
 }
 
 // No tone, or a tone key of either method.
+#[tactic(auto, using(crate::proofs::SoundTest::tone_keys_lem), unfolding(crate::specs::Cells::tone_fits))]
 pub fn tone_fits(x: Cell) -> bool
     ensures { result ≡ tone_fits x }
 {
-    if x.tone == 0 {
-        return true;
-    }
-    let t = x.tone as u32;
-    if input_method::is_tone_key(InputMethod::Telex, t) {
-        return true;
-    }
-    input_method::is_tone_key(InputMethod::Vni, t)
+    let tone = u32::from(x.tone);
+    tone == 0
+        || input_method::is_tone_key(InputMethod::Telex, tone)
+        || input_method::is_tone_key(InputMethod::Vni, tone)
 }
 
 // A cell in use is as soundness asks. Most have no mark and no tone; a mark is a letter, so the base needs no second test.
+#[tactic(auto, using(crate::proofs::Made::mark_letter), unfolding(crate::specs::Cells::is_cell, crate::specs::Cells::mark_fits))]
 pub fn is_cell(x: Cell) -> bool
     ensures { result ≡ is_cell x }
 {
     if x.mark == 0 {
-        if !tone_fits(x) {
-            return false;
-        }
-        return letters::in_alphabet(x.base);
+        return tone_fits(x) && letters::in_alphabet(x.base);
     }
-    if x.mark as u32 != x.base {
-        return false;
-    }
-    if !is_mark(x.mark) {
-        return false;
-    }
-    tone_fits(x)
+    u32::from(x.mark) == x.base && is_mark(x.mark) && tone_fits(x)
 }
 
 // A cell as one number, 0 for a blank cell alone: one load of 8 bytes.
+#[tactic(auto, unfolding(crate::specs::Mirror::packed_cell, crate::specs::Cells::is_blank))]
 pub fn packed(x: Cell) -> u64
     ensures { (result ≡ packed_cell x) × (eqb result 0 ≡ is_blank x) × (result < 2 ^ 57) }
 {
-    let b = x.base as u64;
-    let m = x.mark as u64;
-    let t = x.tone as u64;
-    let w = b + m * 4294967296 + t * 281474976710656;
-    if x.upper {
-        return w + 72057594037927936;
-    }
-    w
+    u64::from(x.base)
+        + u64::from(x.mark) * MARK_AT
+        + u64::from(x.tone) * TONE_AT
+        + u64::from(x.upper) * UPPER_AT
 }
 
 // The cells past the count are blank where, as numbers, their sum is 0: with no way out of the loop, it is done by vectors.
 pub fn sound(c: Composition) -> bool
     ensures { result ≡ is_sound c }
 {
-    let n = c.count;
-    if LIMIT < n {
+    if LIMIT < c.count {
         return false;
     }
-    let mut i: usize = 0;
-    while i < n {
-        let x = c.cells[i];
-        if !is_cell(x) {
+    let (used, past) = c.cells.split_at(c.count);
+    for cell in used {
+        if !is_cell(*cell) {
             return false;
         }
-        i += 1;
     }
-    let mut t: u64 = 0;
-    while i < LIMIT {
-        let x = c.cells[i];
-        let w = packed(x);
-        t += w;
-        i += 1;
+    let mut sum: u64 = 0;
+    for cell in past {
+        sum += packed(*cell);
     }
-    t == 0
+    sum == 0
 }
 
 // ---- text
 
 // The mark, else the base.
+#[tactic(auto, unfolding(crate::specs::Text::letter_of))]
 pub fn letter_of(x: Cell) -> u32
     ensures { result ≡ letter_of x }
 {
     if x.mark == 0 {
-        return x.base;
+        x.base
+    } else {
+        u32::from(x.mark)
     }
-    x.mark as u32
 }
 
+#[tactic(auto, using(crate::proofs::Text::toned_none), unfolding(crate::specs::Text::toned_letter))]
 fn toned_letter(x: Cell) -> u32
     ensures { result ≡ toned_letter x }
 {
-    let l = letter_of(x);
+    let letter = letter_of(x);
     if x.tone == 0 {
-        return l;
+        letter
+    } else {
+        letters::apply_tone_to_char(letter, u32::from(x.tone))
     }
-    letters::apply_tone_to_char(l, x.tone as u32)
 }
 
 // What a flag makes of a letter: its capital; where capitals are off, as the Rust has it, only of an ASCII letter.
-fn flagged(capitals: bool, l: u32) -> u32
-    ensures { result ≡ flagged_of capitals l }
+#[tactic(auto, unfolding(crate::specs::Text::flagged))]
+fn flagged(capitals: bool, letter: u32) -> u32
+    ensures { result ≡ flagged_of capitals letter }
 {
     if capitals {
-        return letters::upper(l);
+        letters::upper(letter)
+    } else if letters::is_capital(letter) {
+        letter
+    } else {
+        letters::ascii_upper(letter)
     }
-    if letters::is_capital(l) {
-        return l;
-    }
-    letters::ascii_upper(l)
 }
 
 // Most cells have neither a tone nor a flag, which one comparison tells.
+#[tactic(auto, using(crate::proofs::Text::shown_plain), unfolding(crate::specs::Text::shown))]
 pub fn shown(capitals: bool, x: Cell) -> u32
     ensures { result ≡ shown_of capitals x }
 {
-    if packed(x) < 281474976710656 {
+    if packed(x) < TONE_AT {
         return letter_of(x);
     }
-    let t = toned_letter(x);
-    if !x.upper {
-        return t;
+    let letter = toned_letter(x);
+    if x.upper {
+        flagged(capitals, letter)
+    } else {
+        letter
     }
-    flagged(capitals, t)
 }
 
 // The text, from the start of an output that has room for it; answers how many letters.
@@ -218,14 +210,8 @@ pub fn flatten(c: Composition, out: &mut [u32]) -> usize
     requires { (c.count ≤ limit) × (c.count ≤ length out.old) }
     ensures { (result ≡ c.count) × (out.new ≡ text_of c.settings.capitals (used c) ++ drop c.count out.old) }
 {
-    let n = c.count;
-    let z = c.settings;
-    let capitals = z.capitals;
-    let mut i: usize = 0;
-    while i < n {
-        let x = c.cells[i];
-        out[i] = shown(capitals, x);
-        i += 1;
+    for (i, cell) in c.cells[..c.count].iter().enumerate() {
+        out[i] = shown(c.settings.capitals, *cell);
     }
-    n
+    c.count
 }

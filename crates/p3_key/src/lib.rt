@@ -47,7 +47,6 @@ fn stay(n: usize, letters: usize, answer: Result<usize, Refusal>) -> Stroke
             change: Change::Nothing,
             at: 0,
             also: 0,
-            mark: 0,
             count: n,
         },
         letters: letters,
@@ -89,7 +88,6 @@ fn pass_stroke(n: usize, room: usize) -> Stroke
 
 // What the key does. The places lie in the array, and the letters fit into it and into the output.
 fn stroke_of(sound: bool, z: Settings, row: &[u32], key: u32, n: usize, room: usize) -> Stroke
-    requires { length row.now ≤ limit }
     ensures { (result ≡ stroke_of sound z (row_cells row.now) key n room) × (result.step.at < limit)
         × (result.step.also < limit) × (result.letters ≤ limit) × (result.letters ≤ room) }
 {
@@ -182,14 +180,7 @@ fn compose(mut c: Composition, key: u32, out: &mut [u32], trusted: bool) -> Afte
     let at = s.at;
     let also = s.also;
     let y = c.cells[also];
-    let p = step::put_cell(
-        change,
-        s.mark,
-        c.cells[at],
-        y,
-        key,
-        letters::ascii_lower(key),
-    );
+    let p = step::put_cell(change, c.cells[at], y, key, letters::ascii_lower(key));
     c.cells[also] = step::also_cell(change, z.capitals, y);
     c.cells[at] = p;
     c.count = s.count;

@@ -1,5 +1,4 @@
 pub mod Steps
-pub mod Cells
 pub mod Makes
 pub mod Same
 pub mod Sound

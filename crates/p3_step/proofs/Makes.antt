@@ -74,7 +74,7 @@ pair_makes z cs i key k h =
     let l : i < length cs = omega arith in
     let d : i + 1 ≡ suc i = omega arith in
     rw d
-    (two_make z (record { change = Pair; at = i; also = suc i; mark = 0; count = length cs }) cs
+    (two_make z (record { change = Pair; at = i; also = suc i; count = length cs }) cs
     (horn_u (get_or cs i blank) (get_or cs (suc i) blank)) (horn_o z.capitals (get_or cs (suc i) blank)) key k refl l h
     (rw (cell_held z cs i l, cell_held z cs (suc i) h) refl)
     (rw (settings_held z cs, cell_held z cs (suc i) h) refl))

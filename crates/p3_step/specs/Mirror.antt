@@ -20,20 +20,23 @@ use Rattle.p3_step.specs.declared.Change.TheVariants.{Nothing, Tone, Mark, Pair,
 use Rattle.p3_step.specs.declared.Step.{Step}
 
 -- ---- steps of n cells in use: nothing changes, a cell takes a tone or a mark, two become a pair, or there is one more
+abbrev pub one_at : Change → ℕ → ℕ → Step
+one_at change i n = record { change = change; at = i; also = i; count = n }
+
 abbrev pub still : ℕ → Step
-still n = record { change = Nothing; at = 0; also = 0; mark = 0; count = n }
+still n = one_at Nothing 0 n
 
 abbrev pub tones_at : ℕ → ℕ → Step
-tones_at n i = record { change = Tone; at = i; also = i; mark = 0; count = n }
+tones_at n i = one_at Tone i n
 
 abbrev pub marks_at : ℕ → ℕ → ℕ → Step
-marks_at n l i = record { change = Mark; at = i; also = i; mark = l; count = n }
+marks_at n l i = one_at (Mark l) i n
 
 abbrev pub pairs_at : ℕ → ℕ → Step
-pairs_at n i = record { change = Pair; at = i; also = i + 1; mark = 0; count = n }
+pairs_at n i = record { change = Pair; at = i; also = i + 1; count = n }
 
 abbrev pub appends_at : ℕ → Step
-appends_at n = record { change = Append; at = n; also = n; mark = 0; count = n + 1 }
+appends_at n = one_at Append n (n + 1)
 
 -- ---- the step of a key
 unfoldable pub tone_for : Settings → List Cell → ℕ → Option ℕ
@@ -59,23 +62,23 @@ unfoldable pub step_of : Settings → List Cell → ℕ → Step
 step_of z cs k = place_or (tone_for z cs k) (tones_at (length cs)) (uo_step z cs k)
 
 -- ---- the cells that come at the two places, where x and y stand
-unfoldable pub put_cell : Change → ℕ → Cell → Cell → ℕ → ℕ → Cell
-put_cell Nothing l x y key k = x
-put_cell Tone l x y key k = record { base = x.base; mark = x.mark; tone = k % 256; upper = x.upper }
-put_cell Mark l x y key k = marked x l
-put_cell Pair l x y key k = horn_u x y
-put_cell Append l x y key k = typed key
+unfoldable pub put_cell : Change → Cell → Cell → ℕ → ℕ → Cell
+put_cell Nothing x y key k = x
+put_cell Tone x y key k = record { base = x.base; mark = x.mark; tone = k % 256; upper = x.upper }
+put_cell (Mark l) x y key k = marked x l
+put_cell Pair x y key k = horn_u x y
+put_cell Append x y key k = typed key
 
 unfoldable pub also_cell : Change → Bool → Cell → Cell
 also_cell Nothing capitals y = y
 also_cell Tone capitals y = y
-also_cell Mark capitals y = y
+also_cell (Mark l) capitals y = y
 also_cell Pair capitals y = horn_o capitals y
 also_cell Append capitals y = y
 
 -- the two cells that a step puts into a composition, each made of what stands there
 abbrev pub put : Step → Composition → ℕ → ℕ → Cell
-put s c key k = put_cell s.change s.mark (cell_of c s.at) (cell_of c s.also) key k
+put s c key k = put_cell s.change (cell_of c s.at) (cell_of c s.also) key k
 
 abbrev pub also_put : Step → Composition → Cell
 also_put s c = also_cell s.change c.settings.capitals (cell_of c s.also)

@@ -1,22 +1,18 @@
 -- "A second form takes the line cut anywhere and answers the same as the whole line does": for every way to cut it.
-use Rattle.std.specs.Prelude.{Err}
+use Rattle.std.specs.Prelude.{Err, Ok}
 use Prim.Native.Nat.{ℕ}
 use mathlib.Core.Path.{◌≡◌, refl, sym, ◌∙◌}
 use mathlib.Core.Bool.{true}
 use mathlib.Core.List.{List, [], ◌∷◌, ◌++◌, flatten}
-use native.Mathlib.Omega.{arith}
 use lib.ListN.{length, take}
 use Rattle.p0_refusals.specs.Answers.{refusal_of}
 use Rattle.p0_refusals.specs.declared.Refusal.{Refusal}
 use Rattle.p4_spelling.specs.Verdict.{longest_length}
 use Rattle.p4_note_line.specs.Line.{line_answer, checked_number}
-use Rattle.p4_note_line.specs.declared.Checked.TheVariants as Checks
 use Rattle.p4_note_line.specs.declared.Report.{Report}
-use Rattle.p4_note_parts.specs.State.{begun, line_sound}
+use Rattle.p4_note_parts.specs.State.{Standing, begun, line_sound}
 use Rattle.p4_note_parts.specs.Parts.{taken, part_taken, standing_answer, standing_checked, part_after, told, state_answer}
 use Rattle.p4_note_parts.specs.declared.Line.{Line}
-use Rattle.p4_note_parts.specs.declared.Standing.{Standing}
-use Rattle.p4_note_parts.specs.declared.Standing.TheVariants.{Going, Foreign, Long}
 use Rattle.p4_note_parts.proofs.Soundness.{begun_sound, part_sound, part_kept}
 use Rattle.p4_note_parts.proofs.Taking.{ended_stays}
 use Rattle.p4_note_parts.proofs.Whole.{begun_line, line_answer_lem}
@@ -63,9 +59,8 @@ parts_sound parts = rw (begun_parts parts) (part_sound begun (flatten parts) beg
 
 -- .. the next part answers as the letters up to its end do ..
 same_number : (t : Standing) (c : Report) → refusal_of (standing_answer t) ≡ checked_number (standing_checked t c)
-same_number Going c = refl
-same_number Foreign c = refl
-same_number Long c = refl
+same_number (Ok u) c = refl
+same_number (Err r) c = refl
 
 pub part_number : (parts : List (List ℕ)) (xs : List ℕ)
     → refusal_of (part_after (parts_taken begun parts) xs).answer ≡ checked_number (line_answer (flatten parts ++ xs))
@@ -88,19 +83,18 @@ asked_between n parts = cut_anywhere (take n parts)
 
 -- a line that a refusal has ended stays as it is, and every part and every question has that refusal
 pub repeats : (s : Line) (r : Refusal) (xs : List ℕ) → line_sound s ≡ true → standing_answer s.standing ≡ Err r
-    → (part_after s xs ≡ record { line = s; answer = Err r }) × (state_answer s ≡ Checks.Refused r)
+    → (part_after s xs ≡ record { line = s; answer = Err r }) × (state_answer s ≡ Err r)
 unfolding part_after state_answer
 repeats s r xs h e = (rw (h, ended_stays s r xs e, e), rw h (refused s.standing (told s) e))
   where
-    refused : (t : Standing) (c : Report) → standing_answer t ≡ Err r → standing_checked t c ≡ Checks.Refused r
-    refused Going c q = let z : ◌≡◌ {A = ℕ} 0 1 = cc in absurd (omega arith)
-    refused Foreign c q = cc
-    refused Long c q = cc
+    refused : (t : Standing) (c : Report) → standing_answer t ≡ Err r → standing_checked t c ≡ Err r
+    refused (Ok u) c q = cc
+    refused (Err w) c q = cc
 
 -- "after either, later calls repeat it": a refused part leaves such a line
 pub repeats_after : (s : Line) (r : Refusal) (xs ys : List ℕ) → line_sound s ≡ true → length s.letters ≡ longest_length
     → (part_after s xs).answer ≡ Err r
     → (part_after (part_after s xs).line ys ≡ record { line = (part_after s xs).line; answer = Err r })
-    × (state_answer (part_after s xs).line ≡ Checks.Refused r)
+    × (state_answer (part_after s xs).line ≡ Err r)
 repeats_after s r xs ys h k e =
     rw (sound_line s h xs) (repeats (part_taken s xs) r ys (part_sound s xs h k) (sym (sound_answer s h xs) ∙ e))

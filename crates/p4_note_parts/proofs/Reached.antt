@@ -1,5 +1,6 @@
 -- A state is sound exactly where it stands for some line. To reach a sound state: words of one letter and spaces make its counts, and the
 -- open word's letters come after them.
+use Rattle.std.specs.Prelude.{Err, Ok, Result}
 use Prim.Native.Nat.{ℕ, zero, suc, ◌+◌, ◌*◌, ◌-◌, ◌/◌, ◌%◌, ◌<◌, ◌≤◌}
 use mathlib.Core.Path.{◌≡◌, refl, sym, ap, ◌∙◌}
 use mathlib.Core.Bool.{Bool, true, false}
@@ -16,6 +17,8 @@ use Rattle.p0_choice.specs.Text.{word, words}
 use Rattle.p0_choice.proofs.Tests.{both_are, are_both, either_is}
 use Rattle.p0_choice.proofs.Numbers.{below_or_not}
 use Rattle.p0_refusals.specs.Limits.{letter_limit}
+use Rattle.p0_refusals.specs.declared.Refusal.{Refusal}
+use Rattle.p0_refusals.specs.declared.Refusal.TheVariants.{Foreign, Long}
 use Rattle.p1_letters.specs.Alphabet.{small_by32, small_by1, small_high, small_next, is_small, is_ascii_capital, is_capital}
 use Rattle.p1_letters.specs.Alphabet.{in_alphabet, is_white_space, is_separator, lower}
 use Rattle.p1_letters.specs.Tones as Tones
@@ -27,14 +30,13 @@ use Rattle.p4_spelling.specs.Verdict as Verdict
 use Rattle.p4_spelling.specs.Verdict.{verdict, longest_length}
 use Rattle.p4_note_line.specs.Line.{line_limit, taking}
 use Rattle.p4_note_line.specs.declared.Report.{Report}
+use Rattle.p4_note_line.specs.declared.Taken.{Taken}
 use Rattle.p4_note_line.specs.declared.Taken.TheVariants as Takes
-use Rattle.p4_note_parts.specs.State.{blank_letters, begun, in_word, letters_fit, line_sound, end_fits}
+use Rattle.p4_note_parts.specs.State.{Standing, blank_letters, begun, in_word, letters_fit, line_sound, end_fits}
 use Rattle.p4_note_parts.specs.Parts.{open_accepted, word_more, counted_all, gap_taken, letter_taken, ended, taken, part_taken}
 use Rattle.p4_note_parts.specs.Reached.{Reached}
 use Rattle.p4_note_parts.specs.declared.Line.{Line}
-use Rattle.p4_note_parts.specs.declared.Standing.{Standing}
-use Rattle.p4_note_parts.specs.declared.Standing.TheVariants.{Going, Foreign, Long}
-use Rattle.p4_note_parts.proofs.Soundness.{before, blank_kept, sound_facts, begun_sound, part_kept, part_sound}
+use Rattle.p4_note_parts.proofs.Soundness.{before, blank_kept, end_cases, sound_facts, begun_sound, part_kept, part_sound}
 use Rattle.p4_note_parts.proofs.Taking.{going_taken}
 use Rattle.p4_note_parts.proofs.Cutting.{part_append}
 
@@ -64,47 +66,47 @@ unfolding in_word in_alphabet is_separator is_white_space word
 z_in = refl
 
 -- ---- what a space, a letter that a word can have, a foreign letter and "a" past the limits are
-space_gap : (at run : ℕ) → at < line_limit → taking at run 0x20 ≡ Takes.Gap
+space_gap : (at run : ℕ) → at < line_limit → taking at run 0x20 ≡ Ok Takes.Gap
 unfolding taking in_alphabet is_separator is_white_space
 space_gap at run l = rw (lt-ltb at line_limit l)
 
-word_letter : (at run x : ℕ) → in_word x ≡ true → at < line_limit → run < letter_limit → taking at run x ≡ Takes.Letter
+word_letter : (at run x : ℕ) → in_word x ≡ true → at < line_limit → run < letter_limit → taking at run x ≡ Ok Takes.Letter
 unfolding taking in_word
 word_letter at run x w l k = rw (lt-ltb at line_limit l, lt-ltb run letter_limit k) (go (in_alphabet x) (is_separator x) w)
   where
-    go : (a b : Bool) → pick a (pick b false true) false ≡ true → pick a (pick b Takes.Gap Takes.Letter) Takes.Foreign ≡ Takes.Letter
+    go : (a b : Bool) → pick a (pick b false true) false ≡ true → pick a (pick b (Ok Takes.Gap) (Ok Takes.Letter)) (Err Foreign) ≡ Ok Takes.Letter
     go true true e = cc
     go true false e = refl
     go false b e = cc
 
-x80_foreign : (at run : ℕ) → taking at run 0x80 ≡ Takes.Foreign
+x80_foreign : (at run : ℕ) → taking at run 0x80 ≡ Err Foreign
 unfolding taking in_alphabet is_small is_capital is_ascii_capital small_by32 small_by1 small_high small_next word
 x80_foreign at run = refl
 
-a_long : (at run : ℕ) → end_fits Long at run ≡ true → taking at run 0x61 ≡ Takes.Long
+a_long : (at run : ℕ) → end_fits (Err Long) at run ≡ true → taking at run 0x61 ≡ Err Long
 unfolding taking in_alphabet is_separator is_white_space word
 a_long at run e = ⊎_elim
     (λ p. rw (le-ltb run letter_limit (omega (arith, eqb-true run letter_limit p))) (go (ltb at line_limit)))
     (λ p. rw (le-ltb at line_limit (omega (arith, eqb-true at line_limit p))))
     (either_is (eqb run letter_limit) (eqb at line_limit) e)
   where
-    go : (b : Bool) → pick b Takes.Long Takes.Long ≡ Takes.Long
+    go : (b : Bool) → ◌≡◌ {A = Result Taken Refusal} (pick b (Err Long) (Err Long)) (Err Long)
     go true = refl
     go false = refl
 
 -- ---- a letter more of a line that goes on
-module _ (s : Line) (g : s.standing ≡ Going) (r : Reached s) where
+module _ (s : Line) (g : s.standing ≡ Ok tt) (r : Reached s) where
   gap_reached : s.length < line_limit → Reached (gap_taken s)
   gap_reached l = more s (gap_taken s) 0x20 (going_taken s 0x20 g ∙ rw (space_gap s.length s.run l)) r
 
   letter_reached : (x : ℕ) → in_word x ≡ true → s.length < line_limit → s.run < letter_limit → Reached (letter_taken s x)
   letter_reached x w l k = more s (letter_taken s x) x (going_taken s x g ∙ rw (word_letter s.length s.run x w l k)) r
 
-  foreign_reached : Reached (ended s Foreign)
-  foreign_reached = more s (ended s Foreign) 0x80 (going_taken s 0x80 g ∙ rw (x80_foreign s.length s.run)) r
+  foreign_reached : Reached (ended s (Err Foreign))
+  foreign_reached = more s (ended s (Err Foreign)) 0x80 (going_taken s 0x80 g ∙ rw (x80_foreign s.length s.run)) r
 
-  long_reached : end_fits Long s.length s.run ≡ true → Reached (ended s Long)
-  long_reached e = more s (ended s Long) 0x61 (going_taken s 0x61 g ∙ rw (a_long s.length s.run e)) r
+  long_reached : end_fits (Err Long) s.length s.run ≡ true → Reached (ended s (Err Long))
+  long_reached e = more s (ended s (Err Long)) 0x61 (going_taken s 0x61 g ∙ rw (a_long s.length s.run e)) r
 
 -- ---- a line that goes on: its length, its open word's, the letters of that which are kept, and the words that have ended
 abbrev line : ℕ → ℕ → List ℕ → Report → Line
@@ -116,7 +118,7 @@ line at run kept c =
       words = c.words;
       noes = c.noes;
       first = c.first;
-      standing = Going;
+      standing = Ok tt;
     }
 
 -- ---- at a gap
@@ -256,9 +258,11 @@ reached_sound s r =
 -- .. and no less
 pub reached : (s : Line) → length s.letters ≡ longest_length → line_sound s ≡ true → Reached s
 unfolding ended
-reached s k h = go s.standing (sound_facts s h).end
+reached s k h =
+    end_cases (λ (t : Standing). Reached (ended s t)) s.standing s.length s.run going (foreign_reached (ended s (Ok tt)) refl going)
+    (λ e. long_reached (ended s (Ok tt)) refl going e) (sound_facts s h).end
   where
-    going : Reached (ended s Going)
+    going : Reached (ended s (Ok tt))
     going =
         let f = sound_facts s h in
         let c = f.counts in
@@ -267,8 +271,3 @@ reached s k h = go s.standing (sound_facts s h).end
         (word_open (s.length - s.run) (before s) s.run s.letters
         (gap_line (s.length - s.run) s.words s.noes s.first c.none c.some (omega arith) (omega arith) (omega arith))
         (omega arith) f.word f.letters k)
-
-    go : (t : Standing) → end_fits t s.length s.run ≡ true → Reached (ended s t)
-    go Going e = going
-    go Foreign e = foreign_reached (ended s Going) refl going
-    go Long e = long_reached (ended s Going) refl going e

@@ -1,4 +1,5 @@
 -- What soundness tells of a state, and that it is kept: every state that a part leaves of a sound one is sound.
+use Rattle.std.specs.Prelude.{Err, Ok, Result}
 use Prim.Native.Nat.{ℕ, zero, suc, ◌+◌, ◌*◌, ◌-◌, ◌%◌, ◌<◌, ◌≤◌}
 use mathlib.Core.Path.{◌≡◌, refl, ◌∙◌}
 use mathlib.Core.Bool.{Bool, true, false}
@@ -11,14 +12,15 @@ use borrow.Author.Tests.{ltb-false, leb-true, eqb-true, eqb-false, le-leb, eq-eq
 use Rattle.p0_choice.proofs.Choices.{pick_both}
 use Rattle.p0_choice.proofs.Tests.{both_are, are_both, is_either}
 use Rattle.p0_refusals.specs.Limits.{letter_limit}
+use Rattle.p0_refusals.specs.declared.Refusal.{Refusal}
+use Rattle.p0_refusals.specs.declared.Refusal.TheVariants as Refusals
+use Rattle.p0_refusals.specs.declared.Refusal.TheVariants.{Foreign, Long}
 use Rattle.p4_spelling.specs.Verdict.{longest_length}
 use Rattle.p4_note_line.specs.Line.{line_limit, taking, whether}
 use Rattle.p4_note_line.specs.declared.Report.{Report}
 use Rattle.p4_note_line.specs.declared.Taken.{Taken}
 use Rattle.p4_note_parts.specs.declared.Line.{Line}
-use Rattle.p4_note_parts.specs.declared.Standing.{Standing}
-use Rattle.p4_note_parts.specs.declared.Standing.TheVariants.{Going, Foreign, Long}
-use Rattle.p4_note_parts.specs.State.{blank_letters, begun, in_word, letters_fit, counts_fit, end_fits, line_sound}
+use Rattle.p4_note_parts.specs.State.{Standing, blank_letters, begun, in_word, letters_fit, counts_fit, end_fits, line_sound}
 use Rattle.p4_note_parts.specs.Parts.{open_accepted, word_more, counted_all, gap_taken, letter_taken, ended, while_going, taken, part_taken}
 use Rattle.p4_note_parts.proofs.Taking.{taking_cases}
 
@@ -93,6 +95,22 @@ module _ (s : Line) where
       pick_both (λ (b : Bool). b ≡ true) (eqb s.noes 0) _ _
       (λ e. are_both _ _ (eq-eqb _ _ (c.none (eqb-true _ _ e))) (le-leb (2 * s.words + s.run) s.length (omega arith)))
       (λ e. are_both _ _ (le-leb _ _ c.some) (are_both _ _ (le-leb _ _ c.room) (le-leb _ _ c.pairs)))
+
+-- ---- the end: what a line can stand at
+pub end_cases : (P : Standing → Type 0) (t : Standing) (length run : ℕ) → P (Ok tt) → P (Err Foreign)
+    → (end_fits (Err Long) length run ≡ true → P (Err Long)) → end_fits t length run ≡ true → P t
+end_cases P (Ok u) length run going foreign long e = going
+end_cases P (Err Foreign) length run going foreign long e = foreign
+end_cases P (Err Long) length run going foreign long e = long e
+end_cases P (Err Refusals.Full) length run going foreign long e = cc
+end_cases P (Err Refusals.Short) length run going foreign long e = cc
+end_cases P (Err Refusals.Empty) length run going foreign long e = cc
+end_cases P (Err Refusals.NoUndo) length run going foreign long e = cc
+end_cases P (Err Refusals.NoWord) length run going foreign long e = cc
+end_cases P (Err Refusals.Malformed) length run going foreign long e = cc
+end_cases P (Err Refusals.NoMethod) length run going foreign long e = cc
+end_cases P (Err Refusals.Unsound) length run going foreign long e = cc
+end_cases P (Err Refusals.NoDraft) length run going foreign long e = cc
 
 -- ---- soundness, as facts
 pub record Facts (s : Line) : Type 0 where
@@ -184,33 +202,32 @@ module _ (s : Line) (h : line_sound s ≡ true) where
       let f = sound_facts s h in
       facts_sound (ended s why) (record { line = f.line; word = f.word; counts = f.counts; end = e; letters = f.letters })
 
-  pub foreign_sound : line_sound (ended s Foreign) ≡ true
-  foreign_sound = ended_sound Foreign refl
+  pub foreign_sound : line_sound (ended s (Err Foreign)) ≡ true
+  foreign_sound = ended_sound (Err Foreign) refl
 
-  pub long_sound : (line_limit ≤ s.length) ⊎ (letter_limit ≤ s.run) → line_sound (ended s Long) ≡ true
+  pub long_sound : (line_limit ≤ s.length) ⊎ (letter_limit ≤ s.run) → line_sound (ended s (Err Long)) ≡ true
   long_sound (inl l) =
-      ended_sound Long
+      ended_sound (Err Long)
       (is_either (eqb s.run letter_limit) _ (eq-eqb s.length line_limit (omega (arith, (sound_facts s h).line))))
-  long_sound (inr l) = ended_sound Long (rw (eq-eqb s.run letter_limit (omega (arith, (sound_facts s h).word))) refl)
+  long_sound (inr l) = ended_sound (Err Long) (rw (eq-eqb s.run letter_limit (omega (arith, (sound_facts s h).word))) refl)
 
 -- a fact of a state that each kind of letter keeps is one of what is taken
 taken_keeps : (P : Line → Type 0) (s : Line) (x : ℕ)
     → P s
     → (s.length < line_limit → P (gap_taken s))
     → (s.length < line_limit → s.run < letter_limit → in_word x ≡ true → P (letter_taken s x))
-    → P (ended s Foreign)
-    → ((line_limit ≤ s.length) ⊎ (letter_limit ≤ s.run) → P (ended s Long))
+    → P (ended s (Err Foreign))
+    → ((line_limit ≤ s.length) ⊎ (letter_limit ≤ s.run) → P (ended s (Err Long)))
     → P (taken s x)
 unfolding taken
 taken_keeps P s x old gap letter foreign long = go s.standing
   where
     go : (w : Standing)
-        → P (while_going w (whether (taking s.length s.run x) (gap_taken s) (letter_taken s x) (ended s Foreign) (ended s Long)) s)
-    go Going =
-        taking_cases (λ (t : Taken). P (whether t (gap_taken s) (letter_taken s x) (ended s Foreign) (ended s Long)))
+        → P (while_going w (whether (taking s.length s.run x) (gap_taken s) (letter_taken s x) (λ r. ended s (Err r))) s)
+    go (Ok u) =
+        taking_cases (λ (t : Result Taken Refusal). P (whether t (gap_taken s) (letter_taken s x) (λ r. ended s (Err r))))
         s.length s.run x (λ l g. gap l) (λ l r w g. letter l r w) foreign long
-    go Foreign = old
-    go Long = old
+    go (Err r) = old
 
 -- ---- what is kept
 -- the room for the letters of the open word

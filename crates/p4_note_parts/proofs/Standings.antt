@@ -6,17 +6,11 @@ use mathlib.Core.Bool.{Bool, true, false, not}
 use mathlib.Core.List.{List}
 use borrow.Author.Tests.{ne_eqb, not-false}
 use Rattle.p0_refusals.specs.declared.Refusal.{Refusal}
-use Rattle.p4_note_line.specs.declared.Checked.{Checked}
 use Rattle.p4_note_line.specs.declared.Report.{Report}
 use Rattle.p4_note_parts.specs.declared.Line.{Line}
-use Rattle.p4_note_parts.specs.declared.Standing.{Standing}
-use Rattle.p4_note_parts.specs.State.{line_sound}
+use Rattle.p4_note_parts.specs.State.{Standing, line_sound}
 use Rattle.p4_note_parts.specs.Parts.{counted_all, part_taken, standing_answer, part_after, told, standing_checked, state_answer}
 use Rattle.p4_note_parts.proofs.Taking.{ended_stays}
-
--- an arm's answer is the standing's
-pub answer_at : (r : Result ℕ Refusal) (w v : Standing) → w ≡ v → r ≡ standing_answer v → r ≡ standing_answer w
-answer_at r w v e h = rw e h
 
 module _ (s : Line) where
   -- the state has passed the test of soundness, which answers v
@@ -30,10 +24,9 @@ module _ (s : Line) where
     unfolding part_after
     part_taken_lem t a e f = rw (h, f, e)
 
-    pub part_refused : (w : Standing) (r : Refusal) → s.standing ≡ w → standing_answer w ≡ Err r
-        → record { line = s; answer = Err r } ≡ part_after s xs
-    part_refused w r e f =
-        let a : standing_answer s.standing ≡ Err r = rw e f in
+    pub part_refused : (r : Refusal) → s.standing ≡ Err r → record { line = s; answer = Err r } ≡ part_after s xs
+    part_refused r e =
+        let a : standing_answer s.standing ≡ Err r = rw e in
         part_taken_lem s (Err r) (sym (ended_stays s r xs a)) (sym a)
 
   -- ---- what is told of it, by the counts n
@@ -47,7 +40,7 @@ module _ (s : Line) where
     told_some d = rw (← e, ne_eqb n.noes 0 d)
 
   -- a sound state answers as it stands
-  pub answer_stands : (r : Checked) (w : Standing) → line_sound s ≡ true → s.standing ≡ w → r ≡ standing_checked w (told s)
+  pub answer_stands : (r : Result Report Refusal) (w : Standing) → line_sound s ≡ true → s.standing ≡ w → r ≡ standing_checked w (told s)
       → r ≡ state_answer s
   unfolding state_answer
   answer_stands r w h e q = rw h (q ∙ ap (λ (v : Standing). standing_checked v (told s)) (sym e))

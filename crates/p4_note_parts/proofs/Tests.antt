@@ -13,9 +13,8 @@ use Rattle.p0_choice.specs.Choice.{pick}
 use Rattle.p0_refusals.specs.Limits.{letter_limit}
 use Rattle.p1_letters.specs.Alphabet.{in_alphabet, is_separator}
 use Rattle.p4_note_line.specs.Line.{line_limit}
-use Rattle.p4_note_parts.specs.State.{in_word, letters_fit, counts_fit, end_fits, line_sound}
+use Rattle.p4_note_parts.specs.State.{Standing, in_word, letters_fit, counts_fit, end_fits, line_sound}
 use Rattle.p4_note_parts.specs.declared.Line.{Line}
-use Rattle.p4_note_parts.specs.declared.Standing.{Standing}
 use Rattle.p4_note_parts.proofs.Soundness.{counts_told}
 
 -- ---- the kept letters, one by one: what is left of them decides

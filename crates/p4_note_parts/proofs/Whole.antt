@@ -1,5 +1,5 @@
 -- The state after a line's letters tells of the line what the whole line's answer tells.
-use Rattle.std.specs.Prelude.{Err}
+use Rattle.std.specs.Prelude.{Err, Ok, Result}
 use Prim.Native.Nat.{ℕ, suc, ◌+◌, ◌-◌, ◌≤◌, ◌<◌}
 use mathlib.Core.Path.{◌≡◌, refl, ap, ◌∙◌}
 use mathlib.Core.Bool.{Bool, true, false}
@@ -12,29 +12,26 @@ use lib.Seq.{take-suc-set, append_snoc}
 use borrow.Author.Tests.{leb-true, leb-false, lt-ltb}
 use Rattle.p0_choice.specs.Choice.{pick}
 use Rattle.p0_choice.proofs.Choices.{pick_both}
+use Rattle.p0_refusals.specs.declared.Refusal.{Refusal}
 use Rattle.p0_refusals.specs.declared.Refusal.TheVariants as Refusals
 use Rattle.p1_letters.specs.Alphabet.{is_separator}
 use Rattle.p4_rows.specs.Rows.{Word}
 use Rattle.p4_spelling.specs.Verdict.{verdict, longest_length}
 use Rattle.p4_spelling.proofs.Folding.{too_long}
 use Rattle.p4_note_line.specs.Line.{Placed, until_gap, line_words_from, line_words, fault_from, line_fault, unless_fault, line_answer, whether}
-use Rattle.p4_note_line.specs.declared.Checked.{Checked}
-use Rattle.p4_note_line.specs.declared.Checked.TheVariants as Checks
 use Rattle.p4_note_line.specs.declared.Report.{Report}
 use Rattle.p4_note_line.specs.declared.Taken.{Taken}
-use Rattle.p4_note_parts.specs.State.{begun}
+use Rattle.p4_note_parts.specs.State.{Standing, begun}
 use Rattle.p4_note_parts.specs.Parts.{open_accepted, counted_all, gap_taken, letter_taken, ended, part_taken, told}
 use Rattle.p4_note_parts.specs.Parts.{standing_checked, state_answer}
 use Rattle.p4_note_parts.specs.declared.Line.{Line}
-use Rattle.p4_note_parts.specs.declared.Standing.{Standing}
-use Rattle.p4_note_parts.specs.declared.Standing.TheVariants.{Going, Foreign, Long}
 use Rattle.p4_note_parts.proofs.Soundness.{before, begun_sound, part_sound}
 use Rattle.p4_note_parts.proofs.Tally.{tally, closed, tally_line}
 use Rattle.p4_note_parts.proofs.Taking.{taking_cases, going_taken, ended_stays}
 
 -- ---- a line that goes on, with the open word w
 record Open (s : Line) (w : Word) : Type 0 where
-  going : s.standing ≡ Going
+  going : s.standing ≡ Ok tt
   long : s.run ≡ length w
   within : s.run ≤ s.length
   eight : length s.letters ≡ longest_length
@@ -129,10 +126,10 @@ letter_foretold s w x xs e = rw (letter_words w s.length x xs e, suc-add, add-su
 
 -- ---- the answer
 -- of a state that is sound
-abbrev answered : Line → Checked
+abbrev answered : Line → Result Report Refusal
 answered s = standing_checked s.standing (told s)
 
-going_told : (t : Standing) (c : Report) → t ≡ Going → standing_checked t c ≡ Checks.Counted c
+going_told : (t : Standing) (c : Report) → t ≡ Ok tt → standing_checked t c ≡ Ok c
 going_told t c e = rw e
 
 -- of a line that goes on: the first refusal of the letters that come, or what is told of the line with them
@@ -143,17 +140,16 @@ open_line s w [] o = rw (going_told s.standing (told s) o.going, add-zero, ← c
 open_line s w (x ∷ xs) o =
     ap (λ (l : Line). answered (part_taken l xs)) (going_taken s x o.going)
     ∙ (taking_cases
-    (λ (t : Taken).
-    answered (part_taken (whether t (gap_taken s) (letter_taken s x) (ended s Foreign) (ended s Long)) xs)
+    (λ (t : Result Taken Refusal).
+    answered (part_taken (whether t (gap_taken s) (letter_taken s x) (λ r. ended s (Err r))) xs)
     ≡ unless_fault
-    (whether t (fault_from (suc s.length) 0 xs) (fault_from (suc s.length) (suc s.run) xs)
-    (Err Refusals.Foreign) (Err Refusals.Long))
+    (whether t (fault_from (suc s.length) 0 xs) (fault_from (suc s.length) (suc s.run) xs) Err)
     (foretold s w (x ∷ xs)))
     s.length s.run x
     (λ l e. rw (← gap_foretold s w x xs o e) (open_line (gap_taken s) [] xs (gap_open s)))
     (λ l k i e. rw (← letter_foretold s w x xs e) (open_line (letter_taken s x) (w ++ (x ∷ [])) xs (letter_open s w x o)))
-    (rw (ended_stays (ended s Foreign) Refusals.Foreign xs refl))
-    (λ l. rw (ended_stays (ended s Long) Refusals.Long xs refl)))
+    (rw (ended_stays (ended s (Err Refusals.Foreign)) Refusals.Foreign xs refl))
+    (λ l. rw (ended_stays (ended s (Err Refusals.Long)) Refusals.Long xs refl)))
 
 -- of a whole line
 pub begun_line : (xs : List ℕ) → standing_checked (part_taken begun xs).standing (told (part_taken begun xs)) ≡ line_answer xs

@@ -1,4 +1,5 @@
 -- The open word: its verdict, the counts with it, and the states that a letter more makes of it.
+use Rattle.std.specs.Prelude.{Ok}
 use Prim.Native.Nat.{ℕ, ◌+◌, ◌-◌, ◌≤◌}
 use mathlib.Core.Path.{◌≡◌, ap, ◌∙◌}
 use mathlib.Core.Bool.{Bool, true, false}
@@ -8,7 +9,7 @@ use native.Mathlib.Omega.{arith}
 use mir.Syntax.{w64}
 use mir.Val.{Fits}
 use lib.Dec.{ltb}
-use lib.ListN.{length, take, set}
+use lib.ListN.{take, set}
 use borrow.Author.Tests.{ne_eqb}
 use Rattle.p0_choice.specs.Choice.{pick}
 use Rattle.p0_choice.proofs.Choices.{pick_le}
@@ -16,10 +17,9 @@ use Rattle.p4_spelling.specs.Verdict.{verdict, longest_length}
 use Rattle.p4_spelling.proofs.Scans.{from_start}
 use Rattle.p4_note_line.specs.declared.Report.{Report}
 use Rattle.p4_note_parts.specs.declared.Line.{Line}
-use Rattle.p4_note_parts.specs.declared.Standing.TheVariants.{Going}
-use Rattle.p4_note_parts.specs.State.{blank_letters, letters_fit, line_sound}
+use Rattle.p4_note_parts.specs.State.{blank_letters, line_sound}
 use Rattle.p4_note_parts.specs.Parts.{open_accepted, word_more, counted_all, gap_taken, letter_taken}
-use Rattle.p4_note_parts.proofs.Soundness.{blank_kept, sound_facts}
+use Rattle.p4_note_parts.proofs.Soundness.{sound_facts}
 
 -- a word that has all its letters kept is judged by them, lent as a part of the room
 pub open_judged : (run : ℕ) (kept : List ℕ) (r : Bool) → run ≤ longest_length → r ≡ verdict (take (run - 0) kept) → r ≡ open_accepted run kept
@@ -51,44 +51,26 @@ module _ (s : Line) where
         words = n.words;
         noes = n.noes;
         first = n.first;
-        standing = Going;
+        standing = Ok tt;
       }
       ≡ gap_taken s
   unfolding gap_taken
   closed n e = rw (e, add-one)
 
-  module _ (g : s.standing ≡ Going) where
-    -- one where no word stands open
-    pub spaced : line_sound s ≡ true → length s.letters ≡ longest_length → s.run ≡ 0
-        → record {
-          letters = s.letters;
-          length = s.length + 1;
-          run = s.run;
-          words = s.words;
-          noes = s.noes;
-          first = s.first;
-          standing = s.standing;
-        }
-        ≡ gap_taken s
-    unfolding gap_taken counted_all
-    spaced h k z =
-        let f : letters_fit 0 s.letters ≡ true = rw z at (sound_facts s h).letters in
-        rw (blank_kept s.letters f ∙ ap blank_letters k, z, g, add-one)
-
-    -- a word's letter; `kept` is what then is kept
-    pub lengthened : (x : ℕ) (kept : List ℕ) → kept ≡ pick (ltb s.run longest_length) (set s.letters s.run x) s.letters
-        → record {
-          letters = kept;
-          length = s.length + 1;
-          run = s.run + 1;
-          words = s.words;
-          noes = s.noes;
-          first = s.first;
-          standing = s.standing;
-        }
-        ≡ letter_taken s x
-    unfolding letter_taken
-    lengthened x kept e = rw (e, g, add-one, add-one)
+  -- a word's letter; `kept` is what then is kept
+  pub lengthened : (x : ℕ) (kept : List ℕ) → kept ≡ pick (ltb s.run longest_length) (set s.letters s.run x) s.letters
+      → record {
+        letters = kept;
+        length = s.length + 1;
+        run = s.run + 1;
+        words = s.words;
+        noes = s.noes;
+        first = s.first;
+        standing = Ok tt;
+      }
+      ≡ letter_taken s x
+  unfolding letter_taken
+  lengthened x kept e = rw (e, add-one, add-one)
 
   -- ---- in a sound state no count exceeds the length, and each has room for one more
   module _ (h : line_sound s ≡ true) where
@@ -103,3 +85,9 @@ module _ (s : Line) where
 
     pub one_more : (n : ℕ) → n ≤ s.length → Fits w64 (n + 1)
     one_more n l = record { fits = omega (arith, sound_facts s h) }
+
+    pub length_fits : Fits w64 (s.length + 1)
+    length_fits = one_more s.length (omega arith)
+
+    pub run_fits : Fits w64 (s.run + 1)
+    run_fits = one_more s.run run_within

@@ -3,17 +3,13 @@
 use Rattle.p0_refusals.specs.declared.Refusal.{Refusal}
 use Rattle.std.specs.Prelude.{ℕ, suc, ◌-◌, Bool, true, false, List, [], ◌∷◌, eqb, ltb, leb, take, set, Err, Ok, Result}
 use Rattle.p0_choice.specs.Choice.{pick}
-use Rattle.p0_refusals.specs.declared.Refusal.TheVariants as Refusals
+use Rattle.p0_refusals.specs.declared.Refusal.TheVariants.{Unsound}
 use Rattle.p4_spelling.specs.Verdict.{verdict, longest_length}
 use Rattle.p4_note_line.specs.Line.{taking, whether}
-use Rattle.p4_note_line.specs.declared.Checked.{Checked}
-use Rattle.p4_note_line.specs.declared.Checked.TheVariants as Checks
 use Rattle.p4_note_line.specs.declared.Report.{Report}
 use Rattle.p4_note_parts.specs.declared.Line.{Line}
 use Rattle.p4_note_parts.specs.declared.LineAfter.{LineAfter}
-use Rattle.p4_note_parts.specs.declared.Standing.{Standing}
-use Rattle.p4_note_parts.specs.declared.Standing.TheVariants.{Going, Foreign, Long}
-use Rattle.p4_note_parts.specs.State.{blank_letters, line_sound}
+use Rattle.p4_note_parts.specs.State.{Standing, blank_letters, line_sound}
 
 -- ---- the open word
 -- whether it is judged yes: "The longest has 8 letters"
@@ -43,7 +39,7 @@ gap_taken s =
       words = (counted_all s).words;
       noes = (counted_all s).noes;
       first = (counted_all s).first;
-      standing = Going;
+      standing = Ok tt;
     }
 
 -- a word's letter is kept while there is room
@@ -56,7 +52,7 @@ letter_taken s x =
       words = s.words;
       noes = s.noes;
       first = s.first;
-      standing = Going;
+      standing = Ok tt;
     }
 
 -- "The line's state .. records that refusal", and nothing else of the letter
@@ -74,14 +70,13 @@ ended s why =
 
 -- "after either, later calls repeat it until a new line is begun"
 abbrev pub while_going : {A : Type 0} → Standing → A → A → A
-while_going Going next old = next
-while_going Foreign next old = old
-while_going Long next old = old
+while_going (Ok u) next old = next
+while_going (Err r) next old = old
 
 unfoldable pub taken : Line → ℕ → Line
 taken s x =
     while_going s.standing
-    (whether (taking s.length s.run x) (gap_taken s) (letter_taken s x) (ended s Foreign) (ended s Long))
+    (whether (taking s.length s.run x) (gap_taken s) (letter_taken s x) (λ r. ended s (Err r)))
     s
 
 -- ---- a part, and the answer
@@ -90,16 +85,15 @@ part_taken s [] = s
 part_taken s (x ∷ xs) = part_taken (taken s x) xs
 
 abbrev pub standing_answer : Standing → Result ℕ Refusal
-standing_answer Going = Ok 0
-standing_answer Foreign = Err Refusals.Foreign
-standing_answer Long = Err Refusals.Long
+standing_answer (Ok u) = Ok 0
+standing_answer (Err r) = Err r
 
 -- "10 first, for a state that breaks the soundness", "and refusal 10 leaves the state too as it was"
 unfoldable pub part_after : Line → List ℕ → LineAfter
 part_after s xs =
     pick (line_sound s)
     (record { line = part_taken s xs; answer = standing_answer (part_taken s xs).standing })
-    (record { line = s; answer = Err Refusals.Unsound })
+    (record { line = s; answer = Err Unsound })
 
 -- what is told of the letters that have come; with none judged no "the line's length"
 unfoldable pub told : Line → Report
@@ -110,10 +104,9 @@ told s =
       first = pick (eqb (counted_all s).noes 0) s.length (counted_all s).first;
     }
 
-abbrev pub standing_checked : Standing → Report → Checked
-standing_checked Going counts = Checks.Counted counts
-standing_checked Foreign counts = Checks.Refused Refusals.Foreign
-standing_checked Long counts = Checks.Refused Refusals.Long
+abbrev pub standing_checked : Standing → Report → Result Report Refusal
+standing_checked (Ok u) counts = Ok counts
+standing_checked (Err r) counts = Err r
 
-unfoldable pub state_answer : Line → Checked
-state_answer s = pick (line_sound s) (standing_checked s.standing (told s)) (Checks.Refused Refusals.Unsound)
+unfoldable pub state_answer : Line → Result Report Refusal
+state_answer s = pick (line_sound s) (standing_checked s.standing (told s)) (Err Unsound)

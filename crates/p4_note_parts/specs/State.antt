@@ -1,13 +1,17 @@
 -- Document 02, request 2026-04, "A second form takes the line cut anywhere": the state that stands for what has come of a line.
-use Rattle.std.specs.Prelude.{ℕ, zero, suc, ◌+◌, ◌*◌, ◌%◌, Bool, true, false, List, [], ◌∷◌, eqb, leb}
+use Rattle.std.specs.Prelude.{Err, Ok, ℕ, zero, suc, ◌+◌, ◌*◌, ◌%◌, Bool, true, false, List, [], ◌∷◌, Result, eqb, leb}
 use Rattle.p0_choice.specs.Choice.{pick}
+use Rattle.p0_refusals.specs.declared.Refusal.{Refusal}
+use Rattle.p0_refusals.specs.declared.Refusal.TheVariants.{Foreign, Long}
 use Rattle.p0_refusals.specs.Limits.{letter_limit}
 use Rattle.p1_letters.specs.Alphabet.{in_alphabet, is_separator}
 use Rattle.p4_spelling.specs.Verdict.{longest_length}
 use Rattle.p4_note_line.specs.Line.{line_limit}
 use Rattle.p4_note_parts.specs.declared.Line.{Line}
-use Rattle.p4_note_parts.specs.declared.Standing.{Standing}
-use Rattle.p4_note_parts.specs.declared.Standing.TheVariants.{Going, Foreign, Long}
+
+-- whether it goes on, or which refusal has ended it
+abbrev pub Standing : Type 0
+Standing = Result (Unit {0}) Refusal
 
 -- the letters that are kept of a word that stands open: a longer one is judged no, whatever they are
 abbrev pub blank_letters : ℕ → List ℕ
@@ -16,7 +20,7 @@ blank_letters (suc n) = 0 ∷ blank_letters n
 
 -- a new line, of which nothing has come
 unfoldable pub begun : Line
-begun = record { letters = blank_letters longest_length; length = 0; run = 0; words = 0; noes = 0; first = 0; standing = Going }
+begun = record { letters = blank_letters longest_length; length = 0; run = 0; words = 0; noes = 0; first = 0; standing = Ok tt }
 
 -- ---- soundness. docs/BYTES.md has it in words.
 -- a letter that a word can have
@@ -39,11 +43,12 @@ counts_fit s =
     (pick (leb (s.first + 2 * s.noes + s.run) s.length) (leb (2 * s.words + s.run + s.first % 2) s.length) false)
     false)
 
--- 6 ends a line at the 65th letter of a word or the 4,097th of the line
+-- 6 ends a line at the 65th letter of a word or the 4,097th of the line, 1 anywhere, and no other refusal does
 abbrev pub end_fits : Standing → ℕ → ℕ → Bool
-end_fits Going length run = true
-end_fits Foreign length run = true
-end_fits Long length run = pick (eqb run letter_limit) true (eqb length line_limit)
+end_fits (Ok u) length run = true
+end_fits (Err Foreign) length run = true
+end_fits (Err Long) length run = pick (eqb run letter_limit) true (eqb length line_limit)
+end_fits (Err _) length run = false
 
 unfoldable pub line_sound : Line → Bool
 line_sound s =

@@ -7,29 +7,23 @@ ghost use Rattle.p0_choice.specs.Choice.{pick};
 ghost use Rattle.p0_refusals.specs.Limits.{letter_limit};
 ghost use Rattle.p4_spelling.specs.Verdict.{longest_length};
 ghost use Rattle.p4_note_line.specs.Line.{line_limit};
-ghost use Rattle.p4_note_parts.specs.declared.Standing.TheVariants.{Going};
 ghost use Rattle.p4_note_parts.specs.State.{begun, letters_fit, counts_fit, end_fits, line_sound};
-ghost use Rattle.p4_note_parts.specs.Parts.{open_accepted, counted_all, gap_taken, ended, part_taken};
-ghost use Rattle.p4_note_parts.specs.Parts.{part_after, standing_answer, state_answer};
+ghost use Rattle.p4_note_parts.specs.Parts.{open_accepted, counted_all, gap_taken, letter_taken, ended, part_taken};
+ghost use Rattle.p4_note_parts.specs.Parts.{part_after, state_answer};
 
 use p0_refusals::{LETTERS, Refusal};
 use p1_letters as letters;
 use p4_note_line as line;
-use p4_note_line::{Checked, LINE, Report, Taken};
+use p4_note_line::{LINE, Report, Taken};
 use p4_spelling as spelling;
 use p4_spelling::LONGEST;
 
 // Whether a line goes on, or which refusal has ended it.
-#[derive(Clone, Copy)]
-pub enum Standing {
-    Going,
-    Foreign,
-    Long,
-}
+pub type Standing = Result<(), Refusal>;
 
 // What has come of a line: how many letters, the open word's number of letters and the first of these, how many words have
 // ended, how many of them are judged no, and where the first of those begins.
-#[derive(Clone, Copy)]
+#[derive(Clone, Copy, Debug, PartialEq, Eq)]
 pub struct Line {
     pub letters: [u32; LONGEST],
     pub length: usize,
@@ -41,7 +35,7 @@ pub struct Line {
 }
 
 // What a part leaves and answers.
-#[derive(Clone, Copy)]
+#[derive(Clone, Copy, Debug, PartialEq, Eq)]
 pub struct LineAfter {
     pub line: Line,
     pub answer: Result<usize, Refusal>,
@@ -114,14 +108,9 @@ fn end_fits(standing: Standing, length: usize, run: usize) -> bool
     ensures { result ≡ end_fits standing length run }
 {
     match standing {
-        Standing::Going => true,
-        Standing::Foreign => true,
-        Standing::Long => {
-            if run == LETTERS {
-                return true;
-            }
-            length == LINE
-        }
+        Ok(()) | Err(Refusal::Foreign) => true,
+        Err(Refusal::Long) => run == LETTERS || length == LINE,
+        Err(_) => false,
     }
 }
 
@@ -188,75 +177,63 @@ fn counted(s: Line) -> Report
 }
 
 // The open word has ended by a gap.
+#[tactic(auto, using(crate::proofs::Words::closed, crate::proofs::Words::length_fits), unfolding(crate::specs::State::begun))]
 fn close(s: Line) -> Line
     requires { line_sound s ≡ true }
     ensures { result ≡ gap_taken s }
 {
     let n = counted(s);
     Line {
-        letters: [0u32; LONGEST],
         length: s.length + 1,
-        run: 0,
         words: n.words,
         noes: n.noes,
         first: n.first,
-        standing: Standing::Going,
+        ..begin()
+    }
+}
+
+// The open word has a letter more, which is kept while there is room.
+#[tactic(auto, using(p0_choice::proofs::Choices::picks, crate::proofs::Words::length_fits, crate::proofs::Words::run_fits, crate::proofs::Words::lengthened))]
+fn lengthen(s: Line, x: u32) -> Line
+    requires { line_sound s ≡ true }
+    ensures { result ≡ letter_taken s x }
+{
+    let mut letters = s.letters;
+    if s.run < LONGEST {
+        letters[s.run] = x;
+    }
+    Line {
+        letters,
+        length: s.length + 1,
+        run: s.run + 1,
+        standing: Ok(()),
+        ..s
     }
 }
 
 // A letter was refused, and the line has ended.
-fn end(s: Line, why: Standing) -> Line
-    ensures { result ≡ ended s why }
+#[tactic(auto, unfolding(crate::specs::Parts::ended))]
+fn end(s: Line, why: Refusal) -> Line
+    ensures { result ≡ ended s (Err why) }
 {
-    let kept = s.letters;
     Line {
-        letters: kept,
-        length: s.length,
-        run: s.run,
-        words: s.words,
-        noes: s.noes,
-        first: s.first,
-        standing: why,
+        standing: Err(why),
+        ..s
     }
 }
 
 // The letters of a part, up to one that is refused.
-fn take_part(s: Line, part: &[u32]) -> Line
-    requires { (line_sound s ≡ true) × (s.standing ≡ Going) }
+#[tactic(auto, using(crate::proofs::Steps::on_start, crate::proofs::Steps::on_end, crate::proofs::Steps::on_gap, crate::proofs::Steps::on_letter, crate::proofs::Steps::on_refused))]
+fn take_part(mut s: Line, part: &[u32]) -> Line
+    requires { (line_sound s ≡ true) × (s.standing ≡ Ok tt) }
     ensures { result ≡ part_taken s part.now }
 {
-    let mut s = s;
-    let mut i: usize = 0;
-    while i < part.len() {
-        let x = part[i];
-        i += 1;
-        let run = s.run;
-        let taken = line::take(s.length, run, x);
-        match taken {
-            Taken::Gap => {
-                if run == 0 {
-                    s.length += 1;
-                    continue;
-                }
-                s = close(s);
-                continue;
-            }
-            Taken::Letter => {
-                s.length += 1;
-                s.run = run + 1;
-                if run < LONGEST {
-                    s.letters[run] = x;
-                    continue;
-                }
-                continue;
-            }
-            Taken::Foreign => {
-                return end(s, Standing::Foreign);
-            }
-            Taken::Long => {
-                return end(s, Standing::Long);
-            }
-        }
+    for x in part {
+        s = match line::take(s.length, s.run, *x) {
+            Ok(Taken::Gap) => close(s),
+            Ok(Taken::Letter) => lengthen(s, *x),
+            Err(why) => return end(s, why),
+        };
     }
     s
 }
@@ -274,22 +251,12 @@ pub fn begin() -> Line
         words: 0,
         noes: 0,
         first: 0,
-        standing: Standing::Going,
-    }
-}
-
-// What a standing answers.
-fn standing_answer(standing: Standing) -> Result<usize, Refusal>
-    ensures { result ≡ standing_answer standing }
-{
-    match standing {
-        Standing::Going => Ok(0),
-        Standing::Foreign => Err(Refusal::Foreign),
-        Standing::Long => Err(Refusal::Long),
+        standing: Ok(()),
     }
 }
 
 // The next part of a line. Refusals: 10, then 1 and 6 by place; these two the state keeps, and repeats.
+#[tactic(auto, using(p0_choice::proofs::Choices::calls, crate::proofs::Standings::tested_sound, crate::proofs::Standings::part_taken_lem, crate::proofs::Standings::part_refused), unfolding(crate::specs::Parts::part_after))]
 pub fn part(s: Line, letters: &[u32]) -> LineAfter
     ensures { result ≡ part_after s letters.now }
 {
@@ -299,48 +266,34 @@ pub fn part(s: Line, letters: &[u32]) -> LineAfter
             answer: Err(Refusal::Unsound),
         };
     }
-    let standing = s.standing;
-    match standing {
-        Standing::Going => {
-            let t = take_part(s, letters);
-            let after = t.standing;
-            LineAfter {
-                line: t,
-                answer: standing_answer(after),
-            }
-        }
-        Standing::Foreign => LineAfter {
+    if let Err(why) = s.standing {
+        return LineAfter {
             line: s,
-            answer: Err(Refusal::Foreign),
-        },
-        Standing::Long => LineAfter {
-            line: s,
-            answer: Err(Refusal::Long),
-        },
+            answer: Err(why),
+        };
+    }
+    let line = take_part(s, letters);
+    LineAfter {
+        line,
+        answer: line.standing.and(Ok(0)),
     }
 }
 
 // What is told of the letters that have come, at any time. Refusals: 10, then the one that the state keeps.
-pub fn answer(s: Line) -> Checked
+#[tactic(auto, using(p0_choice::proofs::Choices::calls, crate::proofs::Standings::tested_sound, crate::proofs::Standings::told_none, crate::proofs::Standings::told_some, crate::proofs::Standings::answer_stands), unfolding(crate::specs::Parts::state_answer))]
+pub fn answer(s: Line) -> Result<Report, Refusal>
     ensures { result ≡ state_answer s }
 {
     if !sound(s) {
-        return Checked::Refused(Refusal::Unsound);
+        return Err(Refusal::Unsound);
     }
-    let standing = s.standing;
-    match standing {
-        Standing::Going => {
-            let n = counted(s);
-            if n.noes == 0 {
-                return Checked::Counted(Report {
-                    words: n.words,
-                    noes: 0,
-                    first: s.length,
-                });
-            }
-            Checked::Counted(n)
-        }
-        Standing::Foreign => Checked::Refused(Refusal::Foreign),
-        Standing::Long => Checked::Refused(Refusal::Long),
+    s.standing?;
+    let n = counted(s);
+    if n.noes == 0 {
+        return Ok(Report {
+            first: s.length,
+            ..n
+        });
     }
+    Ok(n)
 }

@@ -13,20 +13,21 @@ use Rattle.p0_choice.proofs.Choices.{pick_both}
 use Rattle.p5_utf8.specs.Rfc3629.{is_scalar, encode, bits1, bits2, bits3, bits4, ◌to◌, tail, utf8_1, utf8_2, utf8_3, utf8_4, along}
 use Rattle.p5_utf8.specs.Rfc3629.{begins, char_of, char_at}
 use Rattle.p5_utf8.specs.declared.Char.{Char}
-use Rattle.p5_utf8.specs.declared.Char.TheVariants.{NoChar, Scalar}
+use Rattle.std.specs.Prelude.{None, Some, Option}
+use Rattle.p5_utf8.specs.Rfc3629.{character}
 use Rattle.p5_utf8.proofs.Grammar.{inside, bounds, tail_inside, tail_bounds, along_cons, from_rule, first, later, along_three}
 use Rattle.p5_utf8.proofs.Grammar.{along_four, lead_1, lead_2, lead_3, lead_4}
 use Rattle.p5_utf8.proofs.Encode.{row_1, row_2, row_3, row_4, by_row, some_bytes, scalar_low, scalar_high, scalar_cases}
 
 -- ---- what the grammar takes is an encoding
-abbrev Stands : List ℕ → Char → Type 0
-Stands s NoChar = 0 ≤ 0
-Stands s (Scalar x w) = (is_scalar x ≡ true) × (w ≡ length (encode x)) × (s ≡ encode x ++ drop w s)
+abbrev Stands : List ℕ → Option Char → Type 0
+Stands s None = 0 ≤ 0
+Stands s (Some c) = (is_scalar c.scalar ≡ true) × (c.width ≡ length (encode c.scalar)) × (s ≡ encode c.scalar ++ drop c.width s)
 
-stands_1 : (a : ℕ) (s : List ℕ) → a ≤ 0x7f → Stands (a ∷ s) (Scalar a 1)
+stands_1 : (a : ℕ) (s : List ℕ) → a ≤ 0x7f → Stands (a ∷ s) (character a 1)
 stands_1 a s h = let k = row_1 a (omega arith) in (scalar_low a (omega arith), rw (← k) refl, rw (← k) refl)
 
-stands_2 : (a b x : ℕ) (s : List ℕ) → 0xc2 ≤ a → a ≤ 0xdf → tail b ≡ true → x ≡ a % 32 * 64 + b % 64 → Stands (a ∷ b ∷ s) (Scalar x 2)
+stands_2 : (a b x : ℕ) (s : List ℕ) → 0xc2 ≤ a → a ≤ 0xdf → tail b ≡ true → x ≡ a % 32 * 64 + b % 64 → Stands (a ∷ b ∷ s) (character x 2)
 stands_2 a b x s l h t q =
     let r = tail_bounds b t in
     let u : 0xc0 + x / 64 ≡ a = omega arith in
@@ -35,7 +36,7 @@ stands_2 a b x s l h t q =
     (scalar_low x (omega arith), rw (← k) refl, rw (← k) refl)
 
 stands_3 : (a b c x : ℕ) (s : List ℕ) → 0xe0 ≤ a → a ≤ 0xef → tail b ≡ true → tail c ≡ true → x ≡ a % 16 * 4096 + b % 64 * 64 + c % 64
-    → 0x800 ≤ x → is_scalar x ≡ true → Stands (a ∷ b ∷ c ∷ s) (Scalar x 3)
+    → 0x800 ≤ x → is_scalar x ≡ true → Stands (a ∷ b ∷ c ∷ s) (character x 3)
 stands_3 a b c x s l h t y q m d =
     let r = tail_bounds b t in
     let p = tail_bounds c y in
@@ -46,7 +47,7 @@ stands_3 a b c x s l h t y q m d =
     (d, rw (← k) refl, rw (← k) refl)
 
 stands_4 : (a b c d x : ℕ) (s : List ℕ) → 0xf0 ≤ a → a ≤ 0xf4 → tail b ≡ true → tail c ≡ true → tail d ≡ true
-    → x ≡ a % 8 * 262144 + b % 64 * 4096 + c % 64 * 64 + d % 64 → 0x10000 ≤ x → x < 0x110000 → Stands (a ∷ b ∷ c ∷ d ∷ s) (Scalar x 4)
+    → x ≡ a % 8 * 262144 + b % 64 * 4096 + c % 64 * 64 + d % 64 → 0x10000 ≤ x → x < 0x110000 → Stands (a ∷ b ∷ c ∷ d ∷ s) (character x 4)
 stands_4 a b c d x s l h t y z q m o =
     let r = tail_bounds b t in
     let p = tail_bounds c y in
@@ -73,25 +74,25 @@ along_4 P o p q r s f e =
     along_cons P o (p ∷ q ∷ r ∷ []) s e (λ a s' x e'. along_3 (λ (u : List ℕ). P (a ∷ u)) p q r s' (λ b c d u. f a b c d u x) e')
 
 abbrev Three : List ℕ → Type 0
-Three s = Stands s (Scalar (bits3 s) 3)
+Three s = Stands s (character (bits3 s) 3)
 
 abbrev Four : List ℕ → Type 0
-Four s = Stands s (Scalar (bits4 s) 4)
+Four s = Stands s (character (bits4 s) 4)
 
 module _ (s : List ℕ) where
-  rule_1 : begins utf8_1 s ≡ true → Stands s (Scalar (bits1 s) 1)
+  rule_1 : begins utf8_1 s ≡ true → Stands s (character (bits1 s) 1)
   unfolding utf8_1 bits1
   rule_1 e = from_rule _ utf8_1 s e (
-    λ h. along_cons (λ (u : List ℕ). Stands u (Scalar (bits1 u) 1)) (0x00 to 0x7f) [] s h
+    λ h. along_cons (λ (u : List ℕ). Stands u (character (bits1 u) 1)) (0x00 to 0x7f) [] s h
         (λ a u x _. stands_1 a u (bounds 0x00 0x7f a x).1),
     tt,
   )
 
-  rule_2 : begins utf8_2 s ≡ true → Stands s (Scalar (bits2 s) 2)
+  rule_2 : begins utf8_2 s ≡ true → Stands s (character (bits2 s) 2)
   unfolding utf8_2 bits2
   rule_2 e = from_rule _ utf8_2 s e (
-    λ h. along_cons (λ (u : List ℕ). Stands u (Scalar (bits2 u) 2)) (0xc2 to 0xdf) (tail ∷ []) s h (λ a s' x e'.
-        along_cons (λ (u : List ℕ). Stands (a ∷ u) (Scalar (bits2 (a ∷ u)) 2)) tail [] s' e' (λ b u y _.
+    λ h. along_cons (λ (u : List ℕ). Stands u (character (bits2 u) 2)) (0xc2 to 0xdf) (tail ∷ []) s h (λ a s' x e'.
+        along_cons (λ (u : List ℕ). Stands (a ∷ u) (character (bits2 (a ∷ u)) 2)) tail [] s' e' (λ b u y _.
         let l = bounds 0xc2 0xdf a x in stands_2 a b _ u l.0 l.1 y refl)),
     tt,
   )
@@ -151,7 +152,7 @@ module _ (s : List ℕ) where
       pick_both (Stands s) (begins utf8_4 s) _ _ rule_4 (λ _. omega arith))))
 
 -- ---- an encoding is taken by the grammar
-there_2 : (x : ℕ) (s : List ℕ) → 0x80 ≤ x → x < 0x800 → char_of ((0xc0 + x / 64) ∷ (0x80 + x % 64) ∷ s) ≡ Scalar x 2
+there_2 : (x : ℕ) (s : List ℕ) → 0x80 ≤ x → x < 0x800 → char_of ((0xc0 + x / 64) ∷ (0x80 + x % 64) ∷ s) ≡ character x 2
 unfolding utf8_2 begins along bits2
 there_2 x s l h =
     let v : (0xc0 + x / 64) % 32 * 64 + (0x80 + x % 64) % 64 ≡ x = omega arith in
@@ -176,21 +177,21 @@ taken_3 x s l h d = go (ltb x 0x1000) (ltb x 0xd000) refl refl (scalar_cases x d
     go : (t u : Bool) → ltb x 0x1000 ≡ t → ltb x 0xd000 ≡ u → (x < 0xd800) ⊎ ((0xe000 ≤ x) × (x < 0x110000))
         → begins utf8_3 ((0xe0 + x / 4096) ∷ (0x80 + x / 64 % 64) ∷ (0x80 + x % 64) ∷ s) ≡ true
     go true u e f c = let k = ltb-true x 0x1000 e in
-        first _ _ _ (along_three (0xe0 to 0xe0) (0xa0 to 0xbf) tail _ _ _ s (inside 0xe0 0xe0 _ (omega arith) (omega arith))
-        (inside 0xa0 0xbf _ (omega arith) (omega arith)) c_tail)
+        first _ _ _ (along_three (0xe0 to 0xe0) (0xa0 to 0xbf) tail _ _ _ s (inside 0xe0 0xe0 (0xe0 + x / 4096) (omega arith) (omega arith))
+        (inside 0xa0 0xbf (0x80 + x / 64 % 64) (omega arith) (omega arith)) c_tail)
     go false true e f c = let k = ltb-false x 0x1000 e in let m = ltb-true x 0xd000 f in
         later _ _ _ (first _ _ _ (along_three (0xe1 to 0xec) tail tail _ _ _ s
-        (inside 0xe1 0xec _ (omega arith) (omega arith)) b_tail c_tail))
+        (inside 0xe1 0xec (0xe0 + x / 4096) (omega arith) (omega arith)) b_tail c_tail))
     go false false e f (inl k) = let m = ltb-false x 0xd000 f in
         later _ _ _ (later _ _ _ (first _ _ _
-        (along_three (0xed to 0xed) (0x80 to 0x9f) tail _ _ _ s (inside 0xed 0xed _ (omega arith) (omega arith))
-        (inside 0x80 0x9f _ (omega arith) (omega arith)) c_tail)))
+        (along_three (0xed to 0xed) (0x80 to 0x9f) tail _ _ _ s (inside 0xed 0xed (0xe0 + x / 4096) (omega arith) (omega arith))
+        (inside 0x80 0x9f (0x80 + x / 64 % 64) (omega arith) (omega arith)) c_tail)))
     go false false e f (inr k) =
         later _ _ _ (later _ _ _ (later _ _ _
-        (first _ _ _ (along_three (0xee to 0xef) tail tail _ _ _ s (inside 0xee 0xef _ (omega arith) (omega arith)) b_tail c_tail))))
+        (first _ _ _ (along_three (0xee to 0xef) tail tail _ _ _ s (inside 0xee 0xef (0xe0 + x / 4096) (omega arith) (omega arith)) b_tail c_tail))))
 
 there_3 : (x : ℕ) (s : List ℕ) → 0x800 ≤ x → x < 0x10000 → is_scalar x ≡ true
-    → char_of ((0xe0 + x / 4096) ∷ (0x80 + x / 64 % 64) ∷ (0x80 + x % 64) ∷ s) ≡ Scalar x 3
+    → char_of ((0xe0 + x / 4096) ∷ (0x80 + x / 64 % 64) ∷ (0x80 + x % 64) ∷ s) ≡ character x 3
 unfolding bits3
 there_3 x s l h d =
     let v : (0xe0 + x / 4096) % 16 * 4096 + (0x80 + x / 64 % 64) % 64 * 64 + (0x80 + x % 64) % 64 ≡ x = omega arith in
@@ -216,18 +217,18 @@ taken_4 x s l h = go (ltb x 0x40000) (ltb x 0x100000) refl refl
     go : (t u : Bool) → ltb x 0x40000 ≡ t → ltb x 0x100000 ≡ u
         → begins utf8_4 ((0xf0 + x / 262144) ∷ (0x80 + x / 4096 % 64) ∷ (0x80 + x / 64 % 64) ∷ (0x80 + x % 64) ∷ s) ≡ true
     go true u e f = let k = ltb-true x 0x40000 e in
-        first _ _ _ (along_four (0xf0 to 0xf0) (0x90 to 0xbf) tail tail _ _ _ _ s (inside 0xf0 0xf0 _ (omega arith) (omega arith))
-        (inside 0x90 0xbf _ (omega arith) (omega arith)) (last (x / 64)) (last x))
+        first _ _ _ (along_four (0xf0 to 0xf0) (0x90 to 0xbf) tail tail _ _ _ _ s (inside 0xf0 0xf0 (0xf0 + x / 262144) (omega arith) (omega arith))
+        (inside 0x90 0xbf (0x80 + x / 4096 % 64) (omega arith) (omega arith)) (last (x / 64)) (last x))
     go false true e f = let k = ltb-false x 0x40000 e in let m = ltb-true x 0x100000 f in
-        later _ _ _ (first _ _ _ (along_four (0xf1 to 0xf3) tail tail tail _ _ _ _ s (inside 0xf1 0xf3 _ (omega arith) (omega arith))
+        later _ _ _ (first _ _ _ (along_four (0xf1 to 0xf3) tail tail tail _ _ _ _ s (inside 0xf1 0xf3 (0xf0 + x / 262144) (omega arith) (omega arith))
         (last (x / 4096)) (last (x / 64)) (last x)))
     go false false e f = let m = ltb-false x 0x100000 f in
         later _ _ _ (later _ _ _ (first _ _ _
-        (along_four (0xf4 to 0xf4) (0x80 to 0x8f) tail tail _ _ _ _ s (inside 0xf4 0xf4 _ (omega arith) (omega arith))
-        (inside 0x80 0x8f _ (omega arith) (omega arith)) (last (x / 64)) (last x))))
+        (along_four (0xf4 to 0xf4) (0x80 to 0x8f) tail tail _ _ _ _ s (inside 0xf4 0xf4 (0xf0 + x / 262144) (omega arith) (omega arith))
+        (inside 0x80 0x8f (0x80 + x / 4096 % 64) (omega arith) (omega arith)) (last (x / 64)) (last x))))
 
 there_4 : (x : ℕ) (s : List ℕ) → 0x10000 ≤ x → x < 0x110000
-    → char_of ((0xf0 + x / 262144) ∷ (0x80 + x / 4096 % 64) ∷ (0x80 + x / 64 % 64) ∷ (0x80 + x % 64) ∷ s) ≡ Scalar x 4
+    → char_of ((0xf0 + x / 262144) ∷ (0x80 + x / 4096 % 64) ∷ (0x80 + x / 64 % 64) ∷ (0x80 + x % 64) ∷ s) ≡ character x 4
 unfolding bits4
 there_4 x s l h =
     let v : (0xf0 + x / 262144) % 8 * 262144 + (0x80 + x / 4096 % 64) % 64 * 4096 + (0x80 + x / 64 % 64) % 64 * 64 +
@@ -238,11 +239,11 @@ there_4 x s l h =
 
 -- ---- the two together, at the start of bytes
 -- bytes that begin with a character begin with the encoding of a scalar value, and the character is that value
-pub found : (s : List ℕ) (x w : ℕ) → char_of s ≡ Scalar x w → (is_scalar x ≡ true) × (w ≡ length (encode x)) × (s ≡ encode x ++ drop w s)
+pub found : (s : List ℕ) (x w : ℕ) → char_of s ≡ character x w → (is_scalar x ≡ true) × (w ≡ length (encode x)) × (s ≡ encode x ++ drop w s)
 found s x w e = rw e at (stands s)
 
 -- bytes that begin with the encoding of a scalar value begin with that character
-pub there : (x : ℕ) (s : List ℕ) → is_scalar x ≡ true → char_of (encode x ++ s) ≡ Scalar x (length (encode x))
+pub there : (x : ℕ) (s : List ℕ) → is_scalar x ≡ true → char_of (encode x ++ s) ≡ character x (length (encode x))
 there x s d =
     by_row x _
     (λ h. rw (← row_1 x h) (lead_1 x s h))
@@ -251,19 +252,19 @@ there x s d =
     (λ l. rw (← row_4 x l) (there_4 x s l (⊎_elim (λ h. omega arith) (λ h. h.1) (scalar_cases x d))))
 
 -- `encode` is of the scalar values: the bytes that it gives are a character of exactly these
-pub domain : (x : ℕ) (s : List ℕ) → is_scalar x ≡ true ↔ char_of (encode x ++ s) ≡ Scalar x (length (encode x))
+pub domain : (x : ℕ) (s : List ℕ) → is_scalar x ≡ true ↔ char_of (encode x ++ s) ≡ character x (length (encode x))
 domain x s = (λ d. there x s d, λ e. (found (encode x ++ s) x (length (encode x)) e).0)
 
 -- ---- at a place of bytes
 module _ (s : List ℕ) (i : ℕ) where
   -- the character at a place is a scalar value whose encoding stands there
-  pub found_at : (x w : ℕ) → char_at s i ≡ Scalar x w
+  pub found_at : (x w : ℕ) → char_at s i ≡ character x w
       → (is_scalar x ≡ true) × (w ≡ length (encode x)) × (drop i s ≡ encode x ++ drop (i + w) s)
   unfolding char_at
   found_at x w e = let h = found (drop i s) x w e in (h.0, h.1, rw (← drop-drop w i s) h.2)
 
   -- it has a byte at least, and none past the end
-  pub fits_at_lem : (x w : ℕ) → char_at s i ≡ Scalar x w → (1 ≤ w) × (w ≤ 4) × (i + w ≤ length s)
+  pub fits_at_lem : (x w : ℕ) → char_at s i ≡ character x w → (1 ≤ w) × (w ≤ 4) × (i + w ≤ length s)
   fits_at_lem x w e =
       let h = found_at x w e in
       let b = some_bytes x in
@@ -273,19 +274,19 @@ module _ (s : List ℕ) (i : ℕ) where
       (omega arith, omega arith, omega arith)
 
   -- where the encoding of a scalar value stands, the character is that value
-  pub there_at : (x : ℕ) (r : List ℕ) → is_scalar x ≡ true → drop i s ≡ encode x ++ r → char_at s i ≡ Scalar x (length (encode x))
+  pub there_at : (x : ℕ) (r : List ℕ) → is_scalar x ≡ true → drop i s ≡ encode x ++ r → char_at s i ≡ character x (length (encode x))
   unfolding char_at
   there_at x r d e = rw e (there x r d)
 
   -- a place is malformed exactly if no encoding of a scalar value stands there
-  pub malformed : char_at s i ≡ NoChar ↔ ((x : ℕ) (r : List ℕ) → is_scalar x ≡ true → drop i s ≡ encode x ++ r → ⊥)
+  pub malformed : char_at s i ≡ None ↔ ((x : ℕ) (r : List ℕ) → is_scalar x ≡ true → drop i s ≡ encode x ++ r → ⊥)
   malformed = (λ e x r d q. let h = there_at x r d q in let z : ◌≡◌ {A = ℕ} 0 1 = cc in omega arith, λ f. go f (char_at s i) refl)
     where
-      go : ((x : ℕ) (r : List ℕ) → is_scalar x ≡ true → drop i s ≡ encode x ++ r → ⊥) → (c : Char) → char_at s i ≡ c → c ≡ NoChar
-      go f NoChar e = refl
-      go f (Scalar x w) e = let h = found_at x w e in absurd (f x (drop (i + w) s) h.0 h.2)
+      go : ((x : ℕ) (r : List ℕ) → is_scalar x ≡ true → drop i s ≡ encode x ++ r → ⊥) → (c : Option Char) → char_at s i ≡ c → c ≡ None
+      go f None e = refl
+      go f (Some c) e = let h = found_at c.scalar c.width e in absurd (f c.scalar (drop (i + c.width) s) h.0 h.2)
 
   -- a character stands at a place exactly if it is a scalar value, of its width, whose encoding stands there
-  pub exact : (x w : ℕ) → char_at s i ≡ Scalar x w ↔
+  pub exact : (x w : ℕ) → char_at s i ≡ character x w ↔
       ((is_scalar x ≡ true) × (w ≡ length (encode x)) × (drop i s ≡ encode x ++ drop (i + w) s))
-  exact x w = (found_at x w, λ h. there_at x (drop (i + w) s) h.0 h.2 ∙ ap (Scalar x) (sym h.1))
+  exact x w = (found_at x w, λ h. there_at x (drop (i + w) s) h.0 h.2 ∙ ap (character x) (sym h.1))

@@ -2,8 +2,8 @@
 use mathlib.Core.Path.{◌≡◌, refl}
 use mathlib.Core.List.{[], ◌∷◌}
 use Rattle.p0_choice.specs.Text.{word}
-use Rattle.p5_utf8.specs.Rfc3629.{encode, encode_all, ◌to◌, tail, utf8_1, utf8_2, utf8_3, utf8_4, along, begins, char_of}
-use Rattle.p5_utf8.specs.declared.Char.TheVariants.{NoChar}
+use Rattle.p5_utf8.specs.Rfc3629.{encode, encode_all, tail, utf8_1, utf8_2, utf8_3, utf8_4, along, begins, char_of}
+use Rattle.std.specs.Prelude.{None}
 
 pub not_identical_to_alpha : encode_all (word "A≢Α.") ≡ 0x41 ∷ 0xe2 ∷ 0x89 ∷ 0xa2 ∷ 0xce ∷ 0x91 ∷ 0x2e ∷ []
 unfolding encode word
@@ -22,14 +22,14 @@ unfolding encode
 stump_of_tree = refl
 
 -- overlong U+0000, a surrogate pair written as two characters, and the overlong point of "2F C0 AE 2E 2F"
-pub overlong_zero : char_of (0xc0 ∷ 0x80 ∷ []) ≡ NoChar
-unfolding char_of utf8_1 utf8_2 utf8_3 utf8_4 begins along tail ◌to◌
+pub overlong_zero : char_of (0xc0 ∷ 0x80 ∷ []) ≡ None
+unfolding char_of utf8_1 utf8_2 utf8_3 utf8_4 begins along tail
 overlong_zero = refl
 
-pub surrogates : char_of (0xed ∷ 0xa1 ∷ 0x8c ∷ 0xed ∷ 0xbe ∷ 0xb4 ∷ []) ≡ NoChar
-unfolding char_of utf8_1 utf8_2 utf8_3 utf8_4 begins along tail ◌to◌
+pub surrogates : char_of (0xed ∷ 0xa1 ∷ 0x8c ∷ 0xed ∷ 0xbe ∷ 0xb4 ∷ []) ≡ None
+unfolding char_of utf8_1 utf8_2 utf8_3 utf8_4 begins along tail
 surrogates = refl
 
-pub overlong_point : char_of (0xc0 ∷ 0xae ∷ []) ≡ NoChar
-unfolding char_of utf8_1 utf8_2 utf8_3 utf8_4 begins along tail ◌to◌
+pub overlong_point : char_of (0xc0 ∷ 0xae ∷ []) ≡ None
+unfolding char_of utf8_1 utf8_2 utf8_3 utf8_4 begins along tail
 overlong_point = refl

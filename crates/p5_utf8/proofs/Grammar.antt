@@ -9,23 +9,20 @@ use lib.Dec.{ltb, leb}
 use borrow.Author.Tests.{lt-ltb, le-ltb, le-leb, lt-leb, ltb-false, leb-true}
 use Rattle.p0_choice.specs.Choice.{pick}
 use Rattle.p5_utf8.specs.Rfc3629.{◌to◌, tail, utf8_1, utf8_2, utf8_3, utf8_4, along, begins, bits1, bits2, bits3, bits4, char_of}
-use Rattle.p5_utf8.specs.declared.Char.TheVariants.{NoChar, Scalar}
+use Rattle.std.specs.Prelude.{None}
+use Rattle.p5_utf8.specs.Rfc3629.{character}
 
 -- ---- a byte and its range
 pub inside : (low high b : ℕ) → low ≤ b → b ≤ high → (low to high) b ≡ true
-unfolding ◌to◌
 inside low high b l h = rw (le-ltb b low l) (le-leb b high h)
 
 pub below : (low high b : ℕ) → b < low → (low to high) b ≡ false
-unfolding ◌to◌
 below low high b l = rw (lt-ltb b low l) refl
 
 pub above : (low high b : ℕ) → low ≤ b → high < b → (low to high) b ≡ false
-unfolding ◌to◌
 above low high b l h = rw (le-ltb b low l) (lt-leb b high h)
 
 pub bounds : (low high b : ℕ) → (low to high) b ≡ true → (low ≤ b) × (b ≤ high)
-unfolding ◌to◌
 bounds low high b e = go (ltb b low) refl e
   where
     go : (t : Bool) → ltb b low ≡ t → pick t false (leb b high) ≡ true → (low ≤ b) × (b ≤ high)
@@ -130,25 +127,25 @@ module _ (a : ℕ) (s : List ℕ) where
   unfolding utf8_4 begins along
   not_4_yet h = rw (below 0xf0 0xf0 a h, below 0xf1 0xf3 a (omega arith), below 0xf4 0xf4 a (omega arith)) refl
 
-  pub lead_1 : a < 0x80 → char_of (a ∷ s) ≡ Scalar a 1
+  pub lead_1 : a < 0x80 → char_of (a ∷ s) ≡ character a 1
   unfolding char_of utf8_1 begins along bits1
   lead_1 h = rw (inside 0x00 0x7f a (omega arith) (omega arith)) refl
 
-  pub lead_none : 0x80 ≤ a → a < 0xc2 → char_of (a ∷ s) ≡ NoChar
+  pub lead_none : 0x80 ≤ a → a < 0xc2 → char_of (a ∷ s) ≡ None
   unfolding char_of
   lead_none l h = rw (not_1 l, not_2_yet h, not_3_yet (omega arith), not_4_yet (omega arith)) refl
 
-  pub lead_2 : 0xc2 ≤ a → a < 0xe0 → char_of (a ∷ s) ≡ pick (begins utf8_2 (a ∷ s)) (Scalar (bits2 (a ∷ s)) 2) NoChar
+  pub lead_2 : 0xc2 ≤ a → a < 0xe0 → char_of (a ∷ s) ≡ pick (begins utf8_2 (a ∷ s)) (character (bits2 (a ∷ s)) 2) None
   unfolding char_of
   lead_2 l h = rw (not_1 (omega arith), not_3_yet h, not_4_yet (omega arith)) refl
 
-  pub lead_3 : 0xe0 ≤ a → a < 0xf0 → char_of (a ∷ s) ≡ pick (begins utf8_3 (a ∷ s)) (Scalar (bits3 (a ∷ s)) 3) NoChar
+  pub lead_3 : 0xe0 ≤ a → a < 0xf0 → char_of (a ∷ s) ≡ pick (begins utf8_3 (a ∷ s)) (character (bits3 (a ∷ s)) 3) None
   unfolding char_of
   lead_3 l h = rw (not_1 (omega arith), not_2 l, not_4_yet h) refl
 
-  pub lead_4 : 0xf0 ≤ a → char_of (a ∷ s) ≡ pick (begins utf8_4 (a ∷ s)) (Scalar (bits4 (a ∷ s)) 4) NoChar
+  pub lead_4 : 0xf0 ≤ a → char_of (a ∷ s) ≡ pick (begins utf8_4 (a ∷ s)) (character (bits4 (a ∷ s)) 4) None
   unfolding char_of
   lead_4 l = rw (not_1 (omega arith), not_2 (omega arith), not_3 l) refl
 
-  pub lead_past : 0xf5 ≤ a → char_of (a ∷ s) ≡ NoChar
+  pub lead_past : 0xf5 ≤ a → char_of (a ∷ s) ≡ None
   lead_past l = rw (lead_4 (omega arith), not_4 l) refl

@@ -1,19 +1,16 @@
 -- Each way through `put`: the bytes of a code point fit where they go, and are its row of the table.
 use Prim.Native.Nat.{ℕ, suc, ◌+◌, ◌/◌, ◌%◌, ◌<◌, ◌≤◌}
-use mathlib.Core.Path.{◌≡◌, ap, ◌∙◌}
+use mathlib.Core.Path.{◌≡◌, ◌∙◌}
 use mathlib.Core.Bool.{true}
 use mathlib.Core.List.{List, [], ◌∷◌, ◌++◌, append_assoc}
 use native.Mathlib.Omega.{arith}
 use native.Mathlib.Numerals.{add-one}
-use lib.ListN.{length, take, drop, set}
-use lib.Seq.{sets-eq, lt-length-set, drop_at, length-take-le}
+use lib.ListN.{length, take, drop, set, length-set}
+use lib.Seq.{sets-eq, drop_at, length-take-le}
 use Rattle.p5_utf8.specs.Rfc3629.{is_scalar, encode, char_at}
-use Rattle.p5_utf8.specs.declared.Char.TheVariants.{Scalar}
-use Rattle.p5_utf8.proofs.Encode.{row_1, row_2, row_3, row_4, width_1, width_2, width_3, width_4, by_row}
+use Rattle.p5_utf8.specs.Rfc3629.{character}
+use Rattle.p5_utf8.proofs.Encode.{row_1, row_2, row_3, row_4, width_1, width_2, width_3, width_4, by_row, scalar_below}
 use Rattle.p5_utf8.proofs.Exact.{there_at}
-
-pub places_after_lem : (j w n : ℕ) → w ≡ n → j + w ≡ j + n
-places_after_lem j w n e = ap (λ (k : ℕ). j + k) e
 
 module _ (o : List ℕ) (j x : ℕ) (r : j + length (encode x) ≤ length o) where
   pub room_1 : j < length o
@@ -64,11 +61,11 @@ module _ (o : List ℕ) (j x : ℕ) (r : j + length (encode x) ≤ length o) whe
       ∙ append_assoc (take j o) _ (drop (j + 4) o)))
 
   pub put_read : (out : List ℕ) → is_scalar x ≡ true → out ≡ take j o ++ (encode x ++ drop (j + length (encode x)) o)
-      → char_at out j ≡ Scalar x (length (encode x))
+      → char_at out j ≡ character x (length (encode x))
   put_read out d e =
       let k : length (take j o) ≡ j = length-take-le j o (omega arith) in
       there_at out j x (drop (j + length (encode x)) o) d (rw e (drop_at (take j o) (encode x ++ drop (j + length (encode x)) o) j k))
 
-pub ruleset rooms = (room_1, room_2, room_3, room_4, lt-length-set)
-
-pub ruleset rows = (places_after_lem, width_1, width_2, width_3, width_4, put_1, put_2, put_3, put_4, put_read)
+-- each way through `put`
+pub ruleset rows =
+    (room_1, room_2, room_3, room_4, length-set, scalar_below, width_1, width_2, width_3, width_4, put_1, put_2, put_3, put_4, put_read)

@@ -1,9 +1,8 @@
 -- UTF-8, from RFC 3629: the bytes of a character (section 3) and the grammar of byte strings (section 4), for all of
 -- Unicode. proofs/Exact shows that the two say the same: the grammar has the bytes of the scalar values, and no others.
-use Rattle.std.specs.Prelude.{ℕ, ◌+◌, ◌*◌, ◌/◌, ◌%◌, Bool, true, false, List, [], ◌∷◌, ◌++◌, ltb, leb, get_or, drop}
+use Rattle.std.specs.Prelude.{ℕ, ◌+◌, ◌*◌, ◌/◌, ◌%◌, Bool, true, false, List, [], ◌∷◌, ◌++◌, ltb, leb, get_or, drop, Option, Some, None}
 use Rattle.p0_choice.specs.Choice.{pick}
 use Rattle.p5_utf8.specs.declared.Char.{Char}
-use Rattle.p5_utf8.specs.declared.Char.TheVariants.{NoChar, Scalar}
 
 infix 50 ◌to◌
 -- Section 3: "The definition of UTF-8 prohibits encoding character numbers between U+D800 and U+DFFF"; characters are
@@ -43,7 +42,7 @@ unfoldable pub bits4 : List ℕ → ℕ
 bits4 s = get_or s 0 0 % 8 * 262144 + get_or s 1 0 % 64 * 4096 + get_or s 2 0 % 64 * 64 + get_or s 3 0 % 64
 
 -- Section 4's grammar. %xLOW-HIGH is a test of a byte; a rule is its alternatives, each a sequence of such tests.
-unfoldable pub ◌to◌ : ℕ → ℕ → ℕ → Bool
+abbrev pub ◌to◌ : ℕ → ℕ → ℕ → Bool
 (low to high) b = pick (ltb b low) false (leb b high)
 
 -- UTF8-tail = %x80-BF
@@ -86,14 +85,18 @@ unfoldable pub begins : List (List (ℕ → Bool)) → List ℕ → Bool
 begins [] s = false
 begins (q ∷ qs) s = pick (along q s) true (begins qs s)
 
+-- a character: its scalar value, and how many bytes it has
+abbrev pub character : ℕ → ℕ → Option Char
+character x w = Some (record { scalar = x; width = w })
+
 -- UTF8-char = UTF8-1 / UTF8-2 / UTF8-3 / UTF8-4: the character that the bytes begin with, and its width
-unfoldable pub char_of : List ℕ → Char
+unfoldable pub char_of : List ℕ → Option Char
 char_of s =
-    pick (begins utf8_1 s) (Scalar (bits1 s) 1)
-    (pick (begins utf8_2 s) (Scalar (bits2 s) 2)
-    (pick (begins utf8_3 s) (Scalar (bits3 s) 3)
-    (pick (begins utf8_4 s) (Scalar (bits4 s) 4) NoChar)))
+    pick (begins utf8_1 s) (character (bits1 s) 1)
+    (pick (begins utf8_2 s) (character (bits2 s) 2)
+    (pick (begins utf8_3 s) (character (bits3 s) 3)
+    (pick (begins utf8_4 s) (character (bits4 s) 4) None)))
 
 -- the character at a place of the bytes
-unfoldable pub char_at : List ℕ → ℕ → Char
+unfoldable pub char_at : List ℕ → ℕ → Option Char
 char_at s i = char_of (drop i s)

@@ -12,7 +12,8 @@ use Rattle.p0_refusals.specs.declared.Refusal.{Refusal}
 use Rattle.p0_refusals.specs.declared.Refusal.TheVariants.{Foreign, Malformed}
 use Rattle.p1_letters.specs.Alphabet.{in_alphabet, all_letters}
 use Rattle.p5_utf8.specs.declared.Char.{Char}
-use Rattle.p5_utf8.specs.declared.Char.TheVariants.{NoChar, Scalar}
+use Rattle.std.specs.Prelude.{None, Some, Option}
+use Rattle.p5_utf8.specs.Rfc3629.{character}
 use Rattle.p5_utf8.specs.Rfc3629.{is_scalar, encode, encode_all, char_of}
 use Rattle.p0_refusals.specs.Answers.{Outcome, writes, refuses}
 use Rattle.p0_refusals.proofs.Room.{Fits}
@@ -56,7 +57,7 @@ module _ (xs : List ℕ) (a : all_letters xs ≡ true) where
   read_written = ap letters (sym (append-nil (encode_all xs))) ∙ letters_over xs [] a ∙ rw letters_none (all_written xs)
 
   -- letters, then bytes that begin with no character
-  pub first_malformed : (s : List ℕ) → 0 < length s → char_of s ≡ NoChar → letters (encode_all xs ++ s) ≡ refuses Malformed
+  pub first_malformed : (s : List ℕ) → 0 < length s → char_of s ≡ None → letters (encode_all xs ++ s) ≡ refuses Malformed
   first_malformed [] h e = absurd (omega arith)
   first_malformed (b ∷ s) h e = letters_over xs (b ∷ s) a ∙ rw (letters_malformed b s e) (all_refused xs Malformed)
 
@@ -70,7 +71,7 @@ abbrev AfterLetters : List ℕ → (List ℕ → Type 0) → Type 0
 AfterLetters s P = (xs : List ℕ) × (t : List ℕ) × (all_letters xs ≡ true) × (s ≡ encode_all xs ++ t) × P t
 
 abbrev NoCharacter : List ℕ → Type 0
-NoCharacter t = (0 < length t) × (char_of t ≡ NoChar)
+NoCharacter t = (0 < length t) × (char_of t ≡ None)
 
 abbrev ForeignLetter : List ℕ → Type 0
 ForeignLetter t = (x : ℕ) × (r : List ℕ) × (is_scalar x ≡ true) × (in_alphabet x ≡ false) × (t ≡ encode x ++ r)
@@ -92,7 +93,7 @@ is_read_on : (n : ℕ) (s : List ℕ) → length s ≤ n → ((t : List ℕ) →
 is_read_on n [] l rec = rw letters_none (refl, refl)
 is_read_on n (b ∷ s) l rec = go (char_of (b ∷ s)) refl
   where
-    char : (x w : ℕ) → char_of (b ∷ s) ≡ Scalar x w → (v : Bool) → in_alphabet x ≡ v
+    char : (x w : ℕ) → char_of (b ∷ s) ≡ character x w → (v : Bool) → in_alphabet x ≡ v
         → Is (b ∷ s) (pick v (before x (letters (drop w (b ∷ s)))) (refuses Foreign))
     char x w e true a =
         let f = found (b ∷ s) x w e in
@@ -101,9 +102,9 @@ is_read_on n (b ∷ s) l rec = go (char_of (b ∷ s)) refl
         (rec (drop w (b ∷ s)) (omega (arith, length-drop w (b ∷ s))))
     char x w e false a = let f = found (b ∷ s) x w e in inr (refl, ([], b ∷ s, refl, refl, (x, drop w (b ∷ s), f.0, a, f.2)))
 
-    go : (c : Char) → char_of (b ∷ s) ≡ c → Is (b ∷ s) (letters (b ∷ s))
-    go NoChar e = rw (letters_malformed b s e) (inl (refl, ([], b ∷ s, refl, refl, (omega arith, e))))
-    go (Scalar x w) e = rw (letters_char (b ∷ s) x w e) (char x w e (in_alphabet x) refl)
+    go : (c : Option Char) → char_of (b ∷ s) ≡ c → Is (b ∷ s) (letters (b ∷ s))
+    go None e = rw (letters_malformed b s e) (inl (refl, ([], b ∷ s, refl, refl, (omega arith, e))))
+    go (Some c) e = rw (letters_char (b ∷ s) c.scalar c.width e) (char c.scalar c.width e (in_alphabet c.scalar) refl)
 
 is_read : (n : ℕ) (s : List ℕ) → length s < n → Is s (letters s)
 is_read zero s l = absurd (omega arith)

@@ -10,7 +10,7 @@ use Rattle.p1_letters.specs.Alphabet.{all_letters}
 use Rattle.p5_utf8.specs.Rfc3629.{is_scalar, encode, encode_all}
 use Rattle.p0_refusals.specs.Answers.{onto}
 use Rattle.p5_utf8_text.proofs.Alphabet.{letter_scalar, all_at}
-use Rattle.p5_utf8_text.proofs.Measuring.{rest, bytes_on_lem}
+use Rattle.p5_utf8_text.proofs.Measuring.{rest, bytes_start, bytes_on_lem}
 
 pub next_scalar : (xs : List ℕ) (i x : ℕ) → all_letters xs ≡ true → i < length xs → x ≡ get_or xs i 0 → is_scalar x ≡ true
 next_scalar xs i x a l p = rw p (letter_scalar (get_or xs i 0) (all_at xs i a l))
@@ -63,3 +63,6 @@ lay_done xs i j out o e f g l =
     let k : length (encode_all xs) ≡ j = omega (arith, rw z at e) in
     let a : encode_all xs ≡ take j out = (rw z at f) ∙ append-nil (take j out) in
     rw (k, a, ← g) (sym (take-append-drop j out))
+
+-- each way through `lay`
+pub ruleset ways = (next_scalar, put_fits, put_on, put_length, put_bytes, put_rest, lay_start, lay_done, bytes_start)

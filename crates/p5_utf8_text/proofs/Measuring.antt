@@ -47,3 +47,6 @@ measure_done xs i n e f h l =
     let z : drop i xs ≡ [] = drop_of_length-le xs l in
     let k : length (encode_all xs) ≡ n = omega (arith, rw z at f) in
     rw (le-ltb letter_limit (length xs) h, e, z, k) refl
+
+-- each way through `measure`
+pub ruleset ways = (bytes_start, bytes_on_lem, letters_on, measure_long, measure_foreign, measure_done)

@@ -13,9 +13,10 @@ use Rattle.p0_choice.specs.Choice.{pick}
 use Rattle.p0_refusals.specs.Limits.{letter_limit, byte_limit}
 use Rattle.p0_refusals.specs.declared.Refusal.TheVariants.{Short, Long}
 use Rattle.p1_letters.specs.Alphabet.{in_alphabet, all_letters}
-use Rattle.p5_utf8.specs.declared.Char.TheVariants.{NoChar}
+use Rattle.std.specs.Prelude.{None}
 use Rattle.p5_utf8.specs.Rfc3629.{is_scalar, encode, encode_all, char_of}
 use Rattle.p0_refusals.specs.Answers.{writes, refuses, refusal_of, answer}
+use Rattle.p0_refusals.proofs.Answers.{call, call_writes, call_room, output_done}
 use Rattle.p0_refusals.proofs.Room.{Fits, enough}
 use Rattle.p5_utf8_text.specs.Write.{writing}
 use Rattle.p5_utf8_text.proofs.Alphabet.{few_bytes}
@@ -28,7 +29,7 @@ unfolding reading answer
 read_long s m h = rw (lt-ltb byte_limit (length s) h) refl
 
 module _ (xs : List ℕ) (m : ℕ) (a : all_letters xs ≡ true) where
-  pub malformed : (s : List ℕ) → length (encode_all xs ++ s) ≤ byte_limit → 0 < length s → char_of s ≡ NoChar
+  pub malformed : (s : List ℕ) → length (encode_all xs ++ s) ≤ byte_limit → 0 < length s → char_of s ≡ None
       → refusal_of (answer (reading (encode_all xs ++ s)) m) ≡ 8
   unfolding reading answer
   malformed s h l e = rw (le-ltb byte_limit (length (encode_all xs ++ s)) h, first_malformed xs a s l e) refl
@@ -84,3 +85,6 @@ read_back xs bs e =
     let n = few_bytes xs w.1 in
     let l : length bs ≤ byte_limit = omega (arith, ap length w.2) in
     rw (le-ltb byte_limit (length bs) l, w.2) (read_written xs w.1)
+
+-- each way through `read`
+pub ruleset ways = (call, call_writes, call_room, output_done)

@@ -127,3 +127,22 @@ module _ (s xs : List ℕ) (r : reading s ≡ writes xs) where
             go : (t : Bool) → ltb a 0xe0 ≡ t → i + 1 < length s
             go true q = omega (arith, within 2 (two_width h (ltb-true a 0xe0 q)))
             go false q = omega (arith, third_byte (ltb-false a 0xe0 q))
+
+-- each way through `spread`
+pub ruleset ways = (
+  spread_start,
+  spread_done,
+  letter_room,
+  letter_next,
+  letter_fits,
+  letter_on,
+  letter_out_lem,
+  one_width,
+  one_letter,
+  two_width,
+  two_letter,
+  three_width,
+  three_letter,
+  second_byte,
+  third_byte,
+)

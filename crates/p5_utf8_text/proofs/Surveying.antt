@@ -2,7 +2,7 @@
 use Rattle.std.specs.Prelude.{Err, Ok, Result}
 use Rattle.p0_refusals.specs.declared.Refusal.{Refusal}
 use Prim.Native.Nat.{ℕ, ◌+◌, ◌*◌, ◌^◌, ◌<◌, ◌≤◌}
-use mathlib.Core.Path.{◌≡◌, refl, sym, ap, ◌∙◌}
+use mathlib.Core.Path.{◌≡◌, refl, sym, ap}
 use mathlib.Core.Bool.{Bool, true, false, not}
 use mathlib.Core.List.{List, ◌∷◌}
 use native.Mathlib.Omega.{arith}
@@ -15,7 +15,7 @@ use Rattle.p0_refusals.specs.declared.Refusal.TheVariants.{Foreign, Long, Malfor
 use Rattle.p1_letters.specs.Alphabet.{in_alphabet}
 use Rattle.p1_letters.proofs.Alphabet.{alphabet_ascii}
 use Rattle.p5_utf8.specs.declared.Char.{Char}
-use Rattle.p5_utf8.specs.declared.Char.TheVariants.{NoChar, Scalar}
+use Rattle.std.specs.Prelude.{None, Some}
 use Rattle.p5_utf8.specs.Rfc3629.{char_at}
 use Rattle.p0_refusals.specs.Answers.{Outcome, writes, refuses}
 use Rattle.p0_refusals.specs.Mirror.{counted}
@@ -52,27 +52,31 @@ module _ (s : List ℕ) (k i : ℕ) (e : counted (reading s) ≡ counted_from k 
   unfolding counted_from
   survey_done l = let h : k ≡ k + 0 = omega arith in rw (e, at_end s i l) (ap Ok h)
 
-  module _ (c : Char) (l : i < length s) (p : c ≡ char_at s i) where
-    pub survey_malformed : c ≡ NoChar → Err Malformed ≡ counted (reading s)
+  pub survey_malformed : i < length s → char_at s i ≡ None → Err Malformed ≡ counted (reading s)
+  unfolding counted_from
+  survey_malformed l q = rw (e, at_malformed s i l q) refl
+
+  module _ (c : Char) (q : char_at s i ≡ Some c) (v : Bool) (a : v ≡ in_alphabet c.scalar) where
+    pub survey_foreign : not v ≡ true → Err Foreign ≡ counted (reading s)
     unfolding counted_from
-    survey_malformed q = rw (e, at_malformed s i l (sym p ∙ q)) refl
+    survey_foreign b = rw (e, at_char s i c.scalar c.width q, ← a, not-true v b) refl
 
-    module _ (x w : ℕ) (v : Bool) (q : c ≡ Scalar x w) (a : v ≡ in_alphabet x) where
-      pub survey_foreign : not v ≡ true → Err Foreign ≡ counted (reading s)
-      unfolding counted_from
-      survey_foreign b = rw (e, at_char s i x w (sym p ∙ q), ← a, not-true v b) refl
-
-      pub survey_on : not v ≡ false → counted (reading s) ≡ counted_from (k + 1) (letters (drop (i + w) s))
-      survey_on b = rw (e, at_char s i x w (sym p ∙ q), ← a, not-false v b) (from_before k x (letters (drop (i + w) s)))
+    pub survey_on : not v ≡ false → counted (reading s) ≡ counted_from (k + 1) (letters (drop (i + c.width) s))
+    survey_on b =
+        rw (e, at_char s i c.scalar c.width q, ← a, not-false v b) (from_before k c.scalar (letters (drop (i + c.width) s)))
 
   pub survey_ascii : (a : ℕ) → i < length s → a ≡ get_or s i 0 → a < 0x80
       → counted (reading s) ≡ counted_from (k + 1) (letters (drop (i + 1) s))
-  survey_ascii a l p h = survey_on (Scalar a 1) l (at_ascii s i a l p h) a 1 true refl (alphabet_ascii a h) refl
+  survey_ascii a l p h =
+      survey_on (record { scalar = a; width = 1 }) (sym (at_ascii s i a l p h)) true (alphabet_ascii a h) refl
 
 -- ---- a character's bytes are all there
-module _ (s : List ℕ) (i x w : ℕ) (c : Char) (p : c ≡ char_at s i) (q : c ≡ Scalar x w) where
-  pub char_fits : length s * 1 < 2 ^ 63 → Fits w64 (i + w)
-  char_fits h = let b = fits_at_lem s i x w (sym p ∙ q) in record { fits = omega arith }
+module _ (s : List ℕ) (i : ℕ) (c : Char) (q : char_at s i ≡ Some c) where
+  pub char_fits : length s * 1 < 2 ^ 63 → Fits w64 (i + c.width)
+  char_fits h = let b = fits_at_lem s i c.scalar c.width q in record { fits = omega arith }
 
-  pub char_on : (k : ℕ) → k ≤ i → k + 1 ≤ i + w
-  char_on k h = let b = fits_at_lem s i x w (sym p ∙ q) in omega arith
+  pub char_on : (k : ℕ) → k ≤ i → k + 1 ≤ i + c.width
+  char_on k h = let b = fits_at_lem s i c.scalar c.width q in omega arith
+
+-- each way through `survey`
+pub ruleset ways = (survey_long, survey_start, survey_done, survey_malformed, survey_foreign, survey_on, survey_ascii, char_fits, char_on)

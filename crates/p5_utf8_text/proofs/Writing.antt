@@ -16,7 +16,7 @@ use Rattle.p1_letters.specs.Alphabet.{all_letters}
 use Rattle.p5_utf8.specs.Rfc3629.{encode_all}
 use Rattle.p0_refusals.specs.Answers.{writes, refuses, refusal_of, content, answer, onto, output}
 use Rattle.p0_refusals.specs.Mirror.{counted}
-use Rattle.p0_refusals.proofs.Answers.{counted_done, output_done}
+use Rattle.p0_refusals.proofs.Answers.{call, counted_done, output_done}
 use Rattle.p0_refusals.proofs.Room.{Fits, enough}
 use Rattle.p5_utf8_text.specs.Write.{write_room, writing}
 use Rattle.p5_utf8_text.proofs.Alphabet.{few_bytes}
@@ -78,3 +78,6 @@ writing_fits xs = go (ltb letter_limit (length xs)) (all_letters xs) refl refl
 
 pub write_room_lem : (xs : List ℕ) (n : ℕ) → write_room ≤ n → answer (writing xs) n ≡ Err Short → ⊥
 write_room_lem xs n h = enough (writing xs) write_room n (writing_fits xs) h
+
+-- each way through `write`
+pub ruleset ways = (call, lay_letters, lay_room, lay_output)

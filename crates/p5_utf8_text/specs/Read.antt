@@ -1,17 +1,16 @@
 -- Document 01: bytes to be read as UTF-8.
-use Rattle.std.specs.Prelude.{ℕ, zero, suc, ◌-◌, List, [], ◌∷◌, ltb, length}
+use Rattle.std.specs.Prelude.{ℕ, zero, suc, ◌-◌, List, [], ◌∷◌, ltb, length, Option, Some, None}
 use Rattle.p0_choice.specs.Choice.{pick}
 use Rattle.p0_refusals.specs.Limits.{byte_limit}
 use Rattle.p0_refusals.specs.declared.Refusal.TheVariants.{Foreign, Long, Malformed}
 use Rattle.p1_letters.specs.Alphabet.{in_alphabet}
 use Rattle.p5_utf8.specs.declared.Char.{Char}
-use Rattle.p5_utf8.specs.declared.Char.TheVariants.{NoChar, Scalar}
 use Rattle.p5_utf8.specs.Rfc3629.{char_of}
 use Rattle.p0_refusals.specs.Answers.{Outcome, writes, refuses}
 
-unfoldable pub width_of : Char → ℕ
-width_of NoChar = 0
-width_of (Scalar x w) = w
+unfoldable pub width_of : Option Char → ℕ
+width_of None = 0
+width_of (Some c) = c.width
 
 -- a letter, before what the bytes after it are
 unfoldable pub before : ℕ → Outcome → Outcome
@@ -19,9 +18,9 @@ before x (writes xs) = writes (x ∷ xs)
 before x (refuses r) = refuses r
 
 -- "In UTF-8 the first faulty character decides, 8 if malformed, else 1": a character, and what the bytes after it are
-unfoldable pub reads : Char → Outcome → Outcome
-reads NoChar rest = refuses Malformed
-reads (Scalar x w) rest = pick (in_alphabet x) (before x rest) (refuses Foreign)
+unfoldable pub reads : Option Char → Outcome → Outcome
+reads None rest = refuses Malformed
+reads (Some c) rest = pick (in_alphabet c.scalar) (before c.scalar rest) (refuses Foreign)
 
 -- what the bytes are, once the first k, which belong to the character before, are passed over
 unfoldable pub passed : ℕ → List ℕ → Outcome

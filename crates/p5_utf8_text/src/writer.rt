@@ -14,53 +14,45 @@ use p5_utf8 as utf8;
 pub const WIDTH: usize = 3;
 
 // How many bytes the letters have, or why they are refused.
+#[tactic(auto, using(crate::proofs::Measuring::ways))]
 fn measure(word: &[u32]) -> Result<usize, Refusal>
     ensures { result ≡ counted (writing word.now) }
 {
     if LETTERS < word.len() {
         return Err(Refusal::Long);
     }
-    let mut i: usize = 0;
-    let mut n: usize = 0;
-    while i < word.len() {
-        let x = word[i];
-        if !letters::in_alphabet(x) {
+    let mut n = 0;
+    for x in word {
+        if !letters::in_alphabet(*x) {
             return Err(Refusal::Foreign);
         }
-        n += utf8::width(x);
-        i += 1;
+        n += utf8::width(*x);
     }
     Ok(n)
 }
 
 // Writes the letters' bytes from the start of `out`.
+#[tactic(auto, using(crate::proofs::Laying::ways))]
 fn lay(word: &[u32], out: &mut [u8])
     requires { (all_letters word.now ≡ true) × (length (encode_all word.now) ≤ length out.old) }
     ensures { out.new ≡ onto (encode_all word.now) out.old }
 {
-    let mut i: usize = 0;
-    let mut j: usize = 0;
-    while i < word.len() {
-        let x = word[i];
-        j = utf8::put(out, j, x);
-        i += 1;
+    let mut j = 0;
+    for x in word {
+        j = utf8::put(out, j, *x);
     }
 }
 
 // Writes at most LETTERS letters as UTF-8, from the start of `out`. Refusals: 6, then 1, last 3; `out` then stays as it was.
+#[tactic(auto, using(crate::proofs::Writing::ways))]
 pub fn write(word: &[u32], out: &mut [u8]) -> Result<usize, Refusal>
     ensures value { result ≡ answer (writing word.now) (length out.old) }
     ensures out_after { out.new ≡ output (writing word.now) out.old }
 {
-    let measured = measure(word);
-    match measured {
-        Err(refusal) => Err(refusal),
-        Ok(n) => {
-            if out.len() < n {
-                return Err(Refusal::Short);
-            }
-            lay(word, out);
-            Ok(n)
-        }
+    let n = measure(word)?;
+    if out.len() < n {
+        return Err(Refusal::Short);
     }
+    lay(word, out);
+    Ok(n)
 }

@@ -1,5 +1,5 @@
 -- The calls: what each way through one of them answers and leaves.
-use Rattle.std.specs.Prelude.{Err}
+use Rattle.std.specs.Prelude.{Err, Result}
 use Prim.Native.Nat.{ℕ, ◌-◌, ◌≤◌}
 use mathlib.Core.Path.{◌≡◌, refl, sym, ◌∙◌}
 use mathlib.Core.Bool.{Bool, true, false, not}
@@ -10,9 +10,9 @@ use borrow.Author.Tests.{not-true, not-false}
 use mir.Syntax.{w8}
 use mir.Val.{Fits}
 use Rattle.p0_choice.specs.Choice.{pick}
+use Rattle.p0_refusals.specs.declared.Refusal.{Refusal}
 use Rattle.p0_refusals.specs.declared.Refusal.TheVariants.{Unsound}
-use Rattle.p4_note_line.specs.declared.Checked.{Checked}
-use Rattle.p4_note_line.specs.declared.Checked.TheVariants as Checks
+use Rattle.p4_note_line.specs.declared.Report.{Report}
 use Rattle.p4_note_parts.specs.Parts.{part_after, state_answer}
 use Rattle.p4_note_parts.specs.State.{begun, line_sound}
 use Rattle.p4_note_parts.specs.declared.Line.{Line}
@@ -37,7 +37,7 @@ module _ (s : Line) (u : line_sound s ≡ false) where
   unfolding part_after
   after_unsound xs = rw u refl
 
-  answer_unsound : state_answer s ≡ Checks.Refused Unsound
+  answer_unsound : state_answer s ≡ Err Unsound
   unfolding state_answer
   answer_unsound = rw u refl
 
@@ -80,8 +80,8 @@ module _ (b : List ℕ) (v : Bool) (e : v ≡ spells_line b) where
           (either_way (line_bytes_sound b) (line_bytes (part_after (line_of b) xs).line) b
           (λ u. rw (after_unsound (line_of b) (unsound u) xs) (spelt_back b (λ k. (f k).fits) spelt)))
 
-      pub checked_answer : (r : Checked) → r ≡ state_answer s → r ≡ line_answer_on b
+      pub checked_answer : (r : Result Report Refusal) → r ≡ state_answer s → r ≡ line_answer_on b
       unfolding line_answer_on
       checked_answer r q =
           q ∙ rw p
-          (either_way (line_bytes_sound b) (state_answer (line_of b)) (Checks.Refused Unsound) (λ u. answer_unsound (line_of b) (unsound u)))
+          (either_way (line_bytes_sound b) (state_answer (line_of b)) (Err Unsound) (λ u. answer_unsound (line_of b) (unsound u)))

@@ -1,4 +1,6 @@
 -- Reading bytes: the standing, the kept letters one by one, the whole state, and whether there is one to read.
+use Rattle.std.specs.Prelude.{Err, Ok}
+use Rattle.p0_refusals.specs.declared.Refusal.TheVariants.{Foreign, Long}
 use Prim.Native.Nat.{ℕ, zero, suc, ◌+◌, ◌*◌, ◌<◌, ◌≤◌}
 use mathlib.Core.Path.{◌≡◌, refl, sym, ap, ◌∙◌}
 use mathlib.Core.Bool.{true, false}
@@ -10,22 +12,21 @@ use borrow.Author.Tests.{eq-eqb}
 use Rattle.p0_choice.specs.Choice.{among}
 use Rattle.p0_choice.proofs.Arms.{arm}
 use Rattle.p0_choice.proofs.Choices.{picks}
-use Rattle.p4_note_parts.specs.declared.Standing.{Standing}
-use Rattle.p4_note_parts.specs.declared.Standing.TheVariants.{Going, Foreign, Long}
+use Rattle.p4_note_parts.specs.State.{Standing}
 use Rattle.p4_spelling.specs.Verdict.{longest_length}
 use Rattle.p6_note_bytes.specs.Bytes.{kept_start, line_size, standing_of, two_at, kept_at, line_of, standings, spells_line}
 use Rattle.p6_zeros.specs.Zeros.{byte_at}
 
 -- ---- the standing
-pub read_going : (x : ℕ) → x ≡ 0 → Going ≡ standing_of x
+pub read_going : (x : ℕ) → x ≡ 0 → Ok tt ≡ standing_of x
 unfolding standing_of
 read_going x h = search picks
 
-pub read_foreign : (x : ℕ) → x ≡ 1 → Foreign ≡ standing_of x
+pub read_foreign : (x : ℕ) → x ≡ 1 → Err Foreign ≡ standing_of x
 unfolding standing_of
-read_foreign x h = arm standing_of Foreign x 1 h refl
+read_foreign x h = arm standing_of (Err Foreign) x 1 h refl
 
-pub read_long : (x : ℕ) → (x ≡ 0 → ⊥) → (x ≡ 1 → ⊥) → Long ≡ standing_of x
+pub read_long : (x : ℕ) → (x ≡ 0 → ⊥) → (x ≡ 1 → ⊥) → Err Long ≡ standing_of x
 unfolding standing_of
 read_long x h k = search picks
 

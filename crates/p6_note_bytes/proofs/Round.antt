@@ -15,11 +15,9 @@ use Rattle.p0_choice.proofs.Tables.{each_among}
 use Rattle.p0_choice.proofs.Tests.{both_are, are_both}
 use Rattle.p1_letters.specs.Alphabet.{in_alphabet}
 use Rattle.p1_letters.proofs.Alphabet.{alphabet_runs}
-use Rattle.p4_note_parts.specs.State.{in_word, letters_fit, line_sound}
+use Rattle.p4_note_parts.specs.State.{Standing, end_fits, in_word, letters_fit, line_sound}
 use Rattle.p4_note_parts.specs.declared.Line.{Line}
-use Rattle.p4_note_parts.specs.declared.Standing.{Standing}
-use Rattle.p4_note_parts.specs.declared.Standing.TheVariants.{Going, Foreign, Long}
-use Rattle.p4_note_parts.proofs.Soundness.{sound_facts}
+use Rattle.p4_note_parts.proofs.Soundness.{end_cases, sound_facts}
 use Rattle.p4_spelling.specs.Verdict.{longest_length}
 use Rattle.p6_note_bytes.specs.Bytes.{kept_start, line_size, standing_byte, two_bytes, kept_bytes, line_head, line_bytes}
 use Rattle.p6_note_bytes.specs.Bytes.{standing_of, two_at, kept_at, line_of, standings, spells_line, line_bytes_sound}
@@ -27,16 +25,12 @@ use Rattle.p6_note_bytes.proofs.Writing.{kept_bytes_lem}
 use Rattle.p6_zeros.specs.Zeros.{byte_at}
 
 -- ---- read back
-standing_back : (o : Standing) → standing_of (standing_byte o) ≡ o
+standing_back : (o : Standing) (length run : ℕ) → end_fits o length run ≡ true → standing_of (standing_byte o) ≡ o
 unfolding standing_of
-standing_back Going = refl
-standing_back Foreign = refl
-standing_back Long = refl
+standing_back o length run e = end_cases (λ (o : Standing). standing_of (standing_byte o) ≡ o) o length run refl refl (λ f. refl) e
 
-standing_spelt : (o : Standing) → among (standing_byte o) standings ≡ true
-standing_spelt Going = refl
-standing_spelt Foreign = refl
-standing_spelt Long = refl
+standing_spelt : (o : Standing) (length run : ℕ) → end_fits o length run ≡ true → among (standing_byte o) standings ≡ true
+standing_spelt o length run e = end_cases (λ (o : Standing). among (standing_byte o) standings ≡ true) o length run refl refl (λ f. refl) e
 
 -- a number that two bytes have room for
 two_back : (n : ℕ) → n < 65536 → n % 256 + n / 256 % 256 * 256 ≡ n
@@ -89,7 +83,7 @@ module _ (s : Line) (h : line_sound s ≡ true) (n : length s.letters ≡ longes
         two_back s.words (omega arith),
         two_back s.noes (omega arith),
         two_back s.first (omega arith),
-        standing_back s.standing,
+        standing_back s.standing s.length s.run f.end,
       ) refl
 
   -- the form of a sound state is sound
@@ -97,7 +91,7 @@ module _ (s : Line) (h : line_sound s ≡ true) (n : length s.letters ≡ longes
   unfolding line_bytes_sound spells_line line_bytes line_head
   written_sound =
       let l : length (line_bytes s) ≡ line_size = omega (arith, kept_bytes_lem s.letters) in
-      are_both _ _ (are_both _ _ (eq-eqb (length (line_bytes s)) line_size l) (standing_spelt s.standing)) (rw read_written h)
+      are_both _ _ (are_both _ _ (eq-eqb (length (line_bytes s)) line_size l) (standing_spelt s.standing s.length s.run (sound_facts s h).end)) (rw read_written h)
 
 -- ---- written back
 -- a byte that spells a standing

@@ -2,14 +2,12 @@
 -- states. A head of 10 bytes: the refusal that ended the line, the length of the open word, then in two bytes each, low byte first, how
 -- many letters and words have come, how many words are judged no, and where the first of those begins. Then the kept letters of the
 -- open word, two bytes each.
-use Rattle.std.specs.Prelude.{ℕ, zero, suc, ◌+◌, ◌*◌, ◌/◌, ◌%◌, Bool, false, List, [], ◌∷◌, ◌++◌, eqb, length}
+use Rattle.std.specs.Prelude.{Err, Ok, ℕ, zero, suc, ◌+◌, ◌*◌, ◌/◌, ◌%◌, Bool, false, List, [], ◌∷◌, ◌++◌, eqb, length}
 use Rattle.p0_choice.specs.Choice.{pick, among}
 use Rattle.p0_refusals.specs.Refusals.{number_of}
-use Rattle.p0_refusals.specs.declared.Refusal.TheVariants as Refusals
-use Rattle.p4_note_parts.specs.State.{line_sound}
+use Rattle.p0_refusals.specs.declared.Refusal.TheVariants.{Foreign, Long}
+use Rattle.p4_note_parts.specs.State.{Standing, line_sound}
 use Rattle.p4_note_parts.specs.declared.Line.{Line}
-use Rattle.p4_note_parts.specs.declared.Standing.{Standing}
-use Rattle.p4_note_parts.specs.declared.Standing.TheVariants.{Going, Foreign, Long}
 use Rattle.p4_spelling.specs.Verdict.{longest_length}
 use Rattle.p6_zeros.specs.Zeros.{byte_at}
 
@@ -24,9 +22,8 @@ line_size = kept_start + 2 * longest_length
 -- ---- a state, written
 -- "records that refusal": its number, and 0 while the line goes on
 abbrev pub standing_byte : Standing → ℕ
-standing_byte Going = 0
-standing_byte Foreign = number_of Refusals.Foreign
-standing_byte Long = number_of Refusals.Long
+standing_byte (Ok u) = 0
+standing_byte (Err r) = number_of r
 
 -- a number below 65,536, low byte first
 abbrev pub two_bytes : ℕ → List ℕ
@@ -50,7 +47,7 @@ line_bytes s = line_head s ++ kept_bytes s.letters
 -- ---- and read
 -- the standing that a byte spells
 unfoldable pub standing_of : ℕ → Standing
-standing_of x = pick (eqb x 0) Going (pick (eqb x 1) Foreign Long)
+standing_of x = pick (eqb x 0) (Ok tt) (pick (eqb x 1) (Err Foreign) (Err Long))
 
 -- the number that stands in two bytes
 abbrev pub two_at : List ℕ → ℕ → ℕ
@@ -77,7 +74,7 @@ line_of b =
 -- ---- soundness
 -- the bytes that spell a standing
 abbrev pub standings : List ℕ
-standings = standing_byte Going ∷ standing_byte Foreign ∷ standing_byte Long ∷ []
+standings = standing_byte (Ok tt) ∷ standing_byte (Err Foreign) ∷ standing_byte (Err Long) ∷ []
 
 -- bytes of the state's length, of which the first spells a standing
 unfoldable pub spells_line : List ℕ → Bool

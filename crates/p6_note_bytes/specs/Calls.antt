@@ -4,8 +4,7 @@ use Rattle.p0_refusals.specs.declared.Refusal.{Refusal}
 use Rattle.std.specs.Prelude.{ℕ, List, eqb, length, Err, Ok, Result}
 use Rattle.p0_choice.specs.Choice.{pick}
 use Rattle.p0_refusals.specs.declared.Refusal.TheVariants.{Unsound}
-use Rattle.p4_note_line.specs.declared.Checked.{Checked}
-use Rattle.p4_note_line.specs.declared.Checked.TheVariants as Checks
+use Rattle.p4_note_line.specs.declared.Report.{Report}
 use Rattle.p4_note_parts.specs.Parts.{part_after, state_answer}
 use Rattle.p4_note_parts.specs.State.{begun}
 use Rattle.p6_note_bytes.specs.Bytes.{line_size, line_bytes, line_of, line_bytes_sound}
@@ -27,5 +26,5 @@ unfoldable pub line_part_bytes : List ℕ → List ℕ → List ℕ
 line_part_bytes b letters = pick (line_bytes_sound b) (line_bytes (part_after (line_of b) letters).line) b
 
 -- ---- what is told of the letters that have come, which changes nothing
-unfoldable pub line_answer_on : List ℕ → Checked
-line_answer_on b = pick (line_bytes_sound b) (state_answer (line_of b)) (Checks.Refused Unsound)
+unfoldable pub line_answer_on : List ℕ → Result Report Refusal
+line_answer_on b = pick (line_bytes_sound b) (state_answer (line_of b)) (Err Unsound)

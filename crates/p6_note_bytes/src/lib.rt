@@ -7,8 +7,8 @@ ghost use Rattle.p6_note_bytes.specs.Bytes.{kept_start, line_size, standing_byte
 ghost use Rattle.p6_note_bytes.specs.Bytes.{standing_of, two_at, kept_at, line_of, spells_line};
 ghost use Rattle.p6_note_bytes.specs.Calls.{line_begin_on, line_begin_bytes, line_part_on, line_part_bytes, line_answer_on};
 
-use p0_refusals::{Refusal};
-use p4_note_line::Checked;
+use p0_refusals::Refusal;
+use p4_note_line::Report;
 use p4_note_parts as parts;
 use p4_note_parts::{Line, Standing};
 use p4_spelling::LONGEST;
@@ -67,13 +67,14 @@ fn kept_of(b: &[u8]) -> [u32; LONGEST]
     kept
 }
 
+#[tactic(auto, using(crate::proofs::Reading::read_going, crate::proofs::Reading::read_foreign, crate::proofs::Reading::read_long))]
 fn standing_of(x: u8) -> Standing
     ensures { result ≡ standing_of x }
 {
     match x {
-        0 => Standing::Going,
-        1 => Standing::Foreign,
-        _ => Standing::Long,
+        0 => Ok(()),
+        1 => Err(Refusal::Foreign),
+        _ => Err(Refusal::Long),
     }
 }
 
@@ -95,6 +96,7 @@ fn line_of(b: &[u8]) -> Line
 }
 
 // Bytes that spell a state, which is to be tested yet.
+#[tactic(auto, using(crate::proofs::Reading::spells_size, crate::proofs::Reading::spells_standing, crate::proofs::Reading::spells_none))]
 fn spells(b: &[u8]) -> bool
     ensures { result ≡ spells_line b.now }
 {
@@ -115,9 +117,8 @@ fn standing_byte(standing: Standing) -> u8
     ensures { result ≡ standing_byte standing }
 {
     match standing {
-        Standing::Going => 0,
-        Standing::Foreign => 1,
-        Standing::Long => 6,
+        Ok(()) => 0,
+        Err(why) => u32::from(why) as u8,
     }
 }
 
@@ -163,6 +164,7 @@ fn put_line(b: &mut [u8], s: Line)
 // ---- the calls
 
 // A new line, in bytes that may be any. Refusal: 10, for another length.
+#[tactic(auto, using(p0_choice::proofs::Choices::picks, crate::proofs::Calls::begin_put), unfolding(crate::specs::Calls::line_begin_on, crate::specs::Calls::line_begin_bytes))]
 pub fn begin(state: &mut [u8]) -> Result<usize, Refusal>
     ensures value { result ≡ line_begin_on state.old }
     ensures state_after { state.new ≡ line_begin_bytes state.old }
@@ -176,6 +178,7 @@ pub fn begin(state: &mut [u8]) -> Result<usize, Refusal>
 
 // The next part of a line. Refusals: 10, which leaves every byte; then 1 and 6, which the state keeps. Bytes that spell an unsound
 // state are written back as they were.
+#[tactic(auto, using(p0_choice::proofs::Choices::picks, crate::proofs::Calls::unspelt, crate::proofs::Calls::spelt_room, crate::proofs::Calls::part_answer, crate::proofs::Calls::part_bytes), unfolding(crate::specs::Calls::line_part_on, crate::specs::Calls::line_part_bytes))]
 pub fn part(state: &mut [u8], letters: &[u32]) -> Result<usize, Refusal>
     ensures value { result ≡ line_part_on state.old letters.now }
     ensures state_after { state.new ≡ line_part_bytes state.old letters.now }
@@ -192,11 +195,12 @@ pub fn part(state: &mut [u8], letters: &[u32]) -> Result<usize, Refusal>
 }
 
 // What is told of the letters that have come, at any time. Refusals: 10, then the one that the state keeps.
-pub fn answer(state: &[u8]) -> Checked
+#[tactic(auto, using(p0_choice::proofs::Choices::picks, crate::proofs::Calls::unspelt, crate::proofs::Calls::spelt_room, crate::proofs::Calls::checked_answer), unfolding(crate::specs::Calls::line_answer_on))]
+pub fn answer(state: &[u8]) -> Result<Report, Refusal>
     ensures { result ≡ line_answer_on state.now }
 {
     if !spells(state) {
-        return Checked::Refused(Refusal::Unsound);
+        return Err(Refusal::Unsound);
     }
     parts::answer(line_of(state))
 }

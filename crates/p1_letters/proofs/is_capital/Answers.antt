@@ -10,17 +10,11 @@ returns-then-x-lt65 c = search answers
 pub returns-then-x-le90 : goal.returns-then-x-le90
 returns-then-x-le90 c = search answers
 
-pub is_small_by_32-requires : goal.is_small_by_32-requires
-is_small_by_32-requires c = search answers
-
 pub returns-then-x-lt224 : goal.returns-then-x-lt224
 returns-then-x-lt224 c = search answers
 
 pub returns-then-x-gt7928 : goal.returns-then-x-gt7928
 returns-then-x-gt7928 c = search answers
-
-pub is_small_next-requires : goal.is_small_next-requires
-is_small_next-requires c = search answers
 
 pub returns : goal.returns
 returns c = search answers

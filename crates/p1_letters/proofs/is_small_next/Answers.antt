@@ -4,9 +4,6 @@ use Rattle.p1_letters.proofs.is_small_next.Goals as goal
 
 ruleset answers = (rules, next_low, next_high, next_past)
 
-pub is_small_by_1-requires : goal.is_small_by_1-requires
-is_small_by_1-requires c = search answers
-
 pub returns-then-x-lt7841 : goal.returns-then-x-lt7841
 returns-then-x-lt7841 c = search answers
 

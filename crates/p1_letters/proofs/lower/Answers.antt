@@ -4,14 +4,8 @@ use Rattle.p1_letters.proofs.lower.Goals as goal
 
 ruleset answers = (rules, lower_ascii, lower_none, lower_32, lower_1)
 
-pub ascii_lower-requires : goal.ascii_lower-requires
-ascii_lower-requires c = search answers
-
 pub returns-then-x-lt128 : goal.returns-then-x-lt128
 returns-then-x-lt128 c = search answers
-
-pub is_capital-requires : goal.is_capital-requires
-is_capital-requires c = search answers
 
 pub returns-then-not-is_capital : goal.returns-then-not-is_capital
 returns-then-not-is_capital c = search answers

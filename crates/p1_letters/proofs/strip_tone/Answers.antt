@@ -7,15 +7,6 @@ ruleset answers = (rules, off_low, off_found, off_apart)
 pub returns-then-c-lt224 : goal.returns-then-c-lt224
 returns-then-c-lt224 c = search answers
 
-pub letter_place-place-requires : goal.letter_place-place-requires
-letter_place-place-requires c = search answers
-
-pub letter_at-found-requires : goal.letter_at-found-requires
-letter_at-found-requires c = search answers
-
-pub letter_at-requires : goal.letter_at-requires
-letter_at-requires c = search answers
-
 pub returns-then-found-c : goal.returns-then-found-c
 returns-then-found-c c = search answers
 

@@ -5,25 +5,13 @@ use Rattle.p1_letters.proofs.upper.Goals as goal
 
 ruleset answers = (rules, calls)
 
-pub ascii_upper-requires : goal.ascii_upper-requires
-unfolding upper
-ascii_upper-requires c = search answers
-
 pub returns-then-x-lt128 : goal.returns-then-x-lt128
 unfolding upper
 returns-then-x-lt128 c = search answers
 
-pub is_small_by_32-requires : goal.is_small_by_32-requires
-unfolding upper
-is_small_by_32-requires c = search answers
-
 pub returns-then-is_small_by_32 : goal.returns-then-is_small_by_32
 unfolding upper
 returns-then-is_small_by_32 c = search answers
-
-pub is_small_next-requires : goal.is_small_next-requires
-unfolding upper
-is_small_next-requires c = search answers
 
 pub returns-then-is_small_next : goal.returns-then-is_small_next
 unfolding upper

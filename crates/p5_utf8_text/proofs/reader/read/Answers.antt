@@ -1,29 +1,20 @@
-use Rattle.p0_refusals.proofs.Answers.{call, call_writes, call_room, output_done}
 use borrow.Author.Rules.{rules}
+use Rattle.p5_utf8_text.proofs.Reading.{ways}
 use Rattle.p5_utf8_text.proofs.reader.read.Goals as goal
 
-ruleset answers = (rules, call, call_writes, call_room, output_done)
+ruleset answers = (rules, ways)
 
-pub survey-surveyed-requires : goal.survey-surveyed-requires
-survey-surveyed-requires c = search answers
+pub returns-then-out-n-clause-value : goal.returns-then-out-n-clause-value
+returns-then-out-n-clause-value c = search (answers, c.in_ok-n.was)
 
-pub enum_known-surveyed : goal.enum_known-surveyed
-enum_known-surveyed c = search answers
-
-pub enum_known-surveyed-in-Ok-1 : goal.enum_known-surveyed-in-Ok-1
-enum_known-surveyed-in-Ok-1 c = search answers
-
-pub returns-then-out-n : goal.returns-then-out-n
-returns-then-out-n c = search answers
+pub returns-then-out-n-clause-out_after : goal.returns-then-out-n-clause-out_after
+returns-then-out-n-clause-out_after c = search (answers, c.in_ok-n.was)
 
 pub spread-requires : goal.spread-requires
-spread-requires c = search answers
+spread-requires c = search (answers, c.in_ok-n.was)
 
-pub returns-in-Err : goal.returns-in-Err
-returns-in-Err c = search answers
+pub returns-clause-value : goal.returns-clause-value
+returns-clause-value c = search (answers, c.in_ok-n.was)
 
-pub shape_of-out : goal.shape_of-out
-shape_of-out c = search answers
-
-pub returns-else-out-n : goal.returns-else-out-n
-returns-else-out-n c = search answers
+pub returns-clause-out_after : goal.returns-clause-out_after
+returns-clause-out_after c = search (answers, c.in_ok-n.was)
