@@ -119,7 +119,7 @@ pub fn bytes_ok(b: &[u8]) -> bool
 // The bytes of a sound composition, or none where they are those of no such one.
 #[tactic(auto, using(crate::proofs::Sound::no_size))]
 pub fn checked(b: &[u8]) -> Option<&[u8; SIZE]>
-    ensures { MatchOption result (bytes_sound b.now ≡ false) (λ s. (s.now ≡ b.now) × (bytes_sound b.now ≡ true)) }
+    ensures { MatchOption result (bytes_sound b.now ≡ false) (λ s. (s.now ≡ b.now) × (bytes_sound s.now ≡ true)) }
 {
     let b = b.as_array()?;
     if is_sound(b) { Some(b) } else { None }
@@ -129,7 +129,7 @@ pub fn checked(b: &[u8]) -> Option<&[u8; SIZE]>
 #[tactic(auto, using(crate::proofs::Sound::no_size))]
 pub fn checked_mut(b: &mut [u8]) -> Option<&mut [u8; SIZE]>
     ensures* writes_back { sem 𝓛 (LendsBytes b.entry result) }
-    ensures cases { MatchOption result (bytes_sound b.old ≡ false) (λ s. (s.now ≡ b.old) × (bytes_sound b.old ≡ true)) }
+    ensures cases { MatchOption result (bytes_sound b.old ≡ false) (λ s. (s.now ≡ b.old) × (bytes_sound s.now ≡ true)) }
 {
     if !bytes_ok(b) {
         return None;
