@@ -1,5 +1,5 @@
 pub mod Reading
-pub mod Copy
+pub mod Back
 pub mod Meaning
 pub mod Answers
 pub mod AnyList

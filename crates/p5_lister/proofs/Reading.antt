@@ -1,6 +1,9 @@
 -- What the functions read of a node, by its entry t: x is its letter, n how many words go through it, and so on.
 use Prim.Native.Nat.{ℕ, ◌+◌, ◌-◌, ◌≤◌, ◌<◌}
-use mathlib.Core.Path.{◌≡◌, ap, ◌∙◌}
+use mathlib.Core.Path.{◌≡◌, sym, ap, ◌∙◌}
+use mathlib.Core.Bool.{Bool, true, false}
+use lib.Dec.{eqb}
+use borrow.Author.Tests.{eqb-true, eqb-false}
 use mathlib.Core.List.{List}
 use mathlib.Core.Logic.{◌⊎◌, inl, inr, ⊎_elim}
 use native.Mathlib.Omega.{arith}
@@ -24,11 +27,12 @@ module _ (e t : ℕ) (r : t ≡ entry_at e) (x n y left : ℕ) (ex : x ≡ lette
         rw (en ∙ words_is e t r)
         (went_on nodes sound e (rw count_is h) from y most left q (rw (← letter_is e t r, ← ex) l) (rw (← words_is e t r, ← en) m))
 
-    pub passed_last : last_in t ≡ 1 → Passed nodes from y most node_count (left - n)
-    passed_last z = rw (next_none e t r z) passed
+    module _ (v : Bool) (s : v ≡ eqb (last_in t) 1) where
+      pub passed_last : v ≡ true → Passed nodes from y most node_count (left - n)
+      passed_last z = rw (next_none e t r (eqb-true (last_in t) 1 (sym s ∙ z))) passed
 
-    pub passed_on : (last_in t ≡ 1 → ⊥) → Passed nodes from y most (e + 1) (left - n)
-    passed_on z = rw (next_on e t r z) passed
+      pub passed_on : v ≡ false → Passed nodes from y most (e + 1) (left - n)
+      passed_on z = rw (next_on e t r (eqb-false (last_in t) 1 (sym s ∙ z))) passed
 
 -- a scan for no letter stops where the number lies
 pub fewer : (e left : ℕ) → e < node_count → Halts nodes 4294967295 e left → left < (nodes.at e).words

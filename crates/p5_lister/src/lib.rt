@@ -2,18 +2,18 @@
 // table of nodes of `p5_listing`: a letter's node stands in a row with those beside it, and each step goes to a higher number.
 #![tactic(auto)]
 
-ghost use Rattle.std.specs.Prelude.{◌≡◌, ◌++◌, ◌+◌, ◌≤◌, ◌<◌, length, take, drop};
+ghost use Rattle.std.specs.Prelude.{◌≡◌, ◌++◌, ◌+◌, ◌≤◌, ◌<◌, MatchOption, eqb, length, take};
 ghost use Rattle.p5_trie.specs.Mirror.{trie_size, nth, trie_at};
 ghost use Rattle.p5_trie.specs.Numbering.{Many};
 ghost use Rattle.p5_trie.proofs.Tests.{depth};
-ghost use Rattle.p5_trie.proofs.Scan.{Passed, Halts};
 ghost use Rattle.p5_trie.proofs.Turn.{Turned};
 ghost use Rattle.p5_listing.specs.Listed.{Listed};
-ghost use Rattle.p5_listing.specs.Mirror.{node_count, entry_at, letter_in, down_in, words_in, end_in, last_in, nodes};
+ghost use Rattle.p5_listing.specs.Mirror.{node_count, letter_in, down_in, words_in, end_in, last_in, nodes};
 ghost use Rattle.p4_spelling.specs.Verdict.{longest_length};
 ghost use Rattle.p5_listing.specs.Counts.{word_count};
 ghost use Rattle.p0_refusals.specs.Answers.{Outcome, writes, answer, output};
 ghost use Rattle.p5_lister.specs.Meaning.{NumberMeans, NextMeans};
+ghost use Rattle.p5_lister.specs.Mirror.{PassedAll, HaltsAt};
 
 use p0_refusals::{LETTERS, Refusal};
 use p1_letters as letters;
@@ -23,85 +23,82 @@ use p5_nodes as table;
 // How many words are listed; `word_count` says the same.
 const TOTAL: usize = 5963;
 
-// More than any letter: asks for none.
-const NO_LETTER: u32 = 4294967295;
+// More than any letter, and than the words of any list: bounds that stop no scan.
+const NO_LETTER: u32 = u32::MAX;
 
-// No list has more words.
 const MANY: usize = 65536;
 
-// What an entry says of its node: the letter, the first node below, how many words go through it, 1 where a word ends there,
-// and 1 where none is beside it.
-fn letter_in(entry: u32) -> u32
-    ensures { result ≡ letter_in entry }
-{
-    entry / 2097152
+// What the table says of a node, as one number.
+#[derive(Clone, Copy)]
+struct Entry {
+    bits: u32,
 }
 
-fn down_in(entry: u32) -> usize
-    ensures { result ≡ down_in entry }
-{
-    (entry / 4096 % 512) as usize
+impl Entry {
+    fn letter(self) -> u32
+        ensures { result ≡ letter_in self.bits }
+    {
+        self.bits / 2097152
+    }
+
+    // Where the row of the nodes below begins; COUNT where there are none.
+    fn down(self) -> usize
+        ensures { result ≡ down_in self.bits }
+    {
+        (self.bits / 4096 % 512) as usize
+    }
+
+    // How many words go through the node.
+    fn words(self) -> usize
+        ensures { result ≡ words_in self.bits }
+    {
+        (self.bits / 4 % 1024) as usize
+    }
+
+    // How many words end at the node, 0 or 1.
+    fn ends(self) -> usize
+        ensures { result ≡ end_in self.bits }
+    {
+        (self.bits / 2 % 2) as usize
+    }
+
+    // No node is beside it.
+    fn is_last(self) -> bool
+        ensures { result ≡ eqb (last_in self.bits) 1 }
+    {
+        self.bits % 2 == 1
+    }
 }
 
-fn words_in(entry: u32) -> usize
-    ensures { result ≡ words_in entry }
-{
-    (entry / 4 % 1024) as usize
-}
-
-fn end_in(entry: u32) -> usize
-    ensures { result ≡ end_in entry }
-{
-    (entry / 2 % 2) as usize
-}
-
-fn last_in(entry: u32) -> u32
-    ensures { result ≡ last_in entry }
-{
-    entry % 2
-}
-
-// Where a scan stopped: the node or none, what is left of the number, and the node's entry.
+// Where a scan stopped: a node, its entry, and what is left of the number.
 #[derive(Clone, Copy)]
 struct Halt {
     node: usize,
     left: usize,
-    entry: u32,
+    entry: Entry,
 }
 
 // The first node from `from` on, in its row, whose letter is y or more or through which more than `left` words go. Of all
 // functions this one reads the table.
-fn scan(from: usize, y: u32, most: usize) -> Halt
+fn scan(from: usize, y: u32, most: usize) -> Option<Halt>
     requires { from ≤ node_count }
-    ensures passed { Passed nodes from y most result.node result.left }
-    ensures halted { result.node < node_count → (result.entry ≡ entry_at result.node) × Halts nodes y result.node result.left }
+    ensures { MatchOption result (PassedAll from y most) (λ h. HaltsAt from y most h.node h.left h.entry.bits) }
 {
-    let mut node = from;
     let mut left = most;
-    while node < table::COUNT {
-        let entry = table::entry(node);
-        let through = words_in(entry);
-        if y <= letter_in(entry) {
-            return Halt { node, left, entry };
+    for node in from..table::COUNT {
+        let entry = Entry {
+            bits: table::entry(node),
+        };
+        let through = entry.words();
+        if y <= entry.letter() || left < through {
+            return Some(Halt { node, left, entry });
         }
-        if left < through {
-            return Halt { node, left, entry };
+        if entry.is_last() {
+            return None;
         }
         left -= through;
-        if last_in(entry) == 1 {
-            return Halt {
-                node: table::COUNT,
-                left,
-                entry,
-            };
-        }
-        node += 1;
     }
-    Halt {
-        node,
-        left,
-        entry: 0,
-    }
+    None
 }
 
 // A word: the first `len` letters.
@@ -111,72 +108,69 @@ struct Spelled {
     letters: [u32; LONGEST],
 }
 
-// The first `at` letters of `kept`, and after them word n of the node.
+// The first `at` letters of `kept`, and after them word n of the nodes from `from` on.
 fn spell(from: usize, kept: [u32; LONGEST], at: usize, n: usize) -> Spelled
     requires { (from ≤ node_count) × (n < trie_size (trie_at nodes from)) × (at + depth (trie_at nodes from) ≤ longest_length) }
     ensures { (result.len ≤ longest_length) × (take result.len result.letters ≡ take at kept ++ nth (trie_at nodes from) n) }
 {
-    let mut out = kept;
+    let mut letters = kept;
     let mut len = at;
-    let mut node = from;
+    let mut row = from;
     let mut left = n;
-    while node < table::COUNT {
-        let halt = scan(node, NO_LETTER, left);
-        left = halt.left;
-        let entry = halt.entry;
-        out[len] = letter_in(entry);
+    while let Some(halt) = scan(row, NO_LETTER, left) {
+        letters[len] = halt.entry.letter();
         len += 1;
-        let ends = end_in(entry);
-        if left < ends {
-            return Spelled { len, letters: out };
+        let ends = halt.entry.ends();
+        if halt.left < ends {
+            return Spelled { len, letters };
         }
-        left -= ends;
-        node = down_in(entry);
+        left = halt.left - ends;
+        row = halt.entry.down();
     }
-    Spelled { len, letters: out }
+    Spelled { len, letters }
 }
 
-// Where the next word parts from a word: after `at` letters, to the first word of the node; none follows where it is none.
+// Where the next word parts from a word: after `at` letters, to the first word of the node.
 #[derive(Clone, Copy)]
 struct Parting {
     node: usize,
     at: usize,
 }
 
-// Goes along the word; `back` is the node beside the last one passed that had one, after `at` letters.
-fn turn(root: usize, word: &[u32]) -> Parting
+// Goes along the word, and says where the next one parts from it, if one follows; `back` is the node beside the last one
+// passed that had one.
+fn turn(root: usize, word: &[u32]) -> Option<Parting>
     requires { (root ≤ node_count) × (trie_size (trie_at nodes root) ≤ 65536) }
-    ensures { Turned nodes root word.now result.node result.at }
+    ensures { MatchOption result (Turned nodes root word.now node_count 0)
+        (λ p. (p.node < node_count) × Turned nodes root word.now p.node p.at) }
 {
-    let mut node = root;
-    let mut i: usize = 0;
-    let mut back: usize = table::COUNT;
-    let mut at: usize = 0;
-    while i < word.len() {
-        let y = word[i];
-        let halt = scan(node, y, MANY);
-        let there = halt.node;
-        if there == table::COUNT {
-            return Parting { node: back, at };
+    let mut row = root;
+    let mut back = None;
+    for (i, y) in word.iter().enumerate() {
+        let Some(halt) = scan(row, *y, MANY) else {
+            return back;
+        };
+        if *y < halt.entry.letter() {
+            return Some(Parting {
+                node: halt.node,
+                at: i,
+            });
         }
-        let entry = halt.entry;
-        if y < letter_in(entry) {
-            return Parting { node: there, at: i };
+        if !halt.entry.is_last() {
+            back = Some(Parting {
+                node: halt.node + 1,
+                at: i,
+            });
         }
-        if last_in(entry) == 1 {
-            node = down_in(entry);
-            i += 1;
-        } else {
-            back = there + 1;
-            at = i;
-            node = down_in(entry);
-            i += 1;
-        }
+        row = halt.entry.down();
     }
-    if node == table::COUNT {
-        return Parting { node: back, at };
+    if row == table::COUNT {
+        return back;
     }
-    Parting { node, at: i }
+    Some(Parting {
+        node: row,
+        at: word.len(),
+    })
 }
 
 // The first n letters of the word.
@@ -184,39 +178,22 @@ fn keep(word: &[u32], n: usize) -> [u32; LONGEST]
     requires { (n ≤ longest_length) × (n ≤ length word.now) }
     ensures { take n result ≡ take n word.now }
 {
-    let mut out = [0u32; LONGEST];
-    let mut i: usize = 0;
-    while i < n {
-        out[i] = word[i];
-        i += 1;
-    }
+    let mut out = [0; LONGEST];
+    out[..n].copy_from_slice(&word[..n]);
     out
 }
 
-// Writes the first n letters to the start of the output.
-fn put(letters: [u32; LONGEST], n: usize, out: &mut [u32])
-    requires { (n ≤ longest_length) × (n ≤ length out.old) }
-    ensures { out.new ≡ take n letters ++ drop n out.old }
-{
-    let mut i: usize = 0;
-    while i < n {
-        out[i] = letters[i];
-        i += 1;
-    }
-}
-
 // Gives the word, if there is room for it.
-fn give(word: Spelled, out: &mut [u32]) -> Result<usize, Refusal>
-    requires { word.len ≤ longest_length }
-    ensures { (result ≡ answer (writes (take word.len word.letters)) (length out.old))
-        × (out.new ≡ output (writes (take word.len word.letters)) out.old) }
+fn give(word: &Spelled, out: &mut [u32]) -> Result<usize, Refusal>
+    requires { word.now.len ≤ longest_length }
+    ensures { (result ≡ answer (writes (take word.now.len word.now.letters)) (length out.old))
+        × (out.new ≡ output (writes (take word.now.len word.now.letters)) out.old) }
 {
     let len = word.len;
-    let letters = word.letters;
     if out.len() < len {
         return Err(Refusal::Short);
     }
-    put(letters, len, out);
+    out[..len].copy_from_slice(&word.letters[..len]);
     Ok(len)
 }
 
@@ -235,9 +212,8 @@ pub fn word_number(n: usize, out: &mut [u32]) -> Result<usize, Refusal>
     if TOTAL <= n {
         return Err(Refusal::NoWord);
     }
-    let none = [0u32; LONGEST];
-    let word = spell(table::ROOT, none, 0, n);
-    give(word, out)
+    let word = spell(table::ROOT, [0; LONGEST], 0, n);
+    give(&word, out)
 }
 
 // The first listed word after a permitted word, which need not be listed.
@@ -251,13 +227,8 @@ pub fn next_word(word: &[u32], out: &mut [u32]) -> Result<usize, Refusal>
     if !letters::all_letters(word) {
         return Err(Refusal::Foreign);
     }
-    let parting = turn(table::ROOT, word);
-    let node = parting.node;
-    let at = parting.at;
-    if node == table::COUNT {
-        return Err(Refusal::NoWord);
-    }
-    let kept = keep(word, at);
-    let next = spell(node, kept, at, 0);
-    give(next, out)
+    let parting = turn(table::ROOT, word).ok_or(Refusal::NoWord)?;
+    let kept = keep(word, parting.at);
+    let next = spell(parting.node, kept, parting.at, 0);
+    give(&next, out)
 }

@@ -1,6 +1,5 @@
 -- The scan's invariant; each turn is a law of proofs/Reading.
-use mathlib.Core.Path.{◌∙◌}
-use mathlib.Core.Logic.{inl, inr}
+use mathlib.Core.Logic.{inl, inr, ⊎_elim}
 use native.Mathlib.Omega.{arith}
 use Rattle.p5_trie.proofs.Scan.{begin}
 use Rattle.p5_listing.specs.Mirror.{nodes}
@@ -11,41 +10,22 @@ use Rattle.p5_lister.proofs.scan.Goals as goal
 pub loop-node-init : goal.loop-node-init
 loop-node-init c = begin nodes c.args.from c.args.y c.args.most (rw count_is c.requires)
 
-pub returns-then-y-letter_in : goal.returns-then-y-letter_in
-returns-then-y-letter_in c = record {
-  passed = c.loop-node.invariant;
-  halted = λ h. (
-    c.entry-entry.ensures,
-    halting _ _ c.entry-entry.ensures _ _ _ _ c.letter_in.ensures c.words_in-through.ensures (inl c.if-y-letter_in.true),
-  );
-}
+pub returns-then-y-letter : goal.returns-then-y-letter
+returns-then-y-letter c = (
+  omega arith,
+  c.loop-node.invariant,
+  c.entry.ensures,
+  halting _ _ c.entry.ensures _ _ _ _ c.letter.ensures c.words-through.ensures (⊎_elim inl (λ q. inr q.1) c.then-y-letter.either),
+)
 
-pub returns-then-left-through : goal.returns-then-left-through
-returns-then-left-through c = record {
-  passed = c.loop-node.invariant;
-  halted = λ h. (
-    c.entry-entry.ensures,
-    halting _ _ c.entry-entry.ensures _ _ _ _ c.letter_in.ensures c.words_in-through.ensures (inr c.if-left-through.true),
-  );
-}
-
-pub returns-then-last_in-eq1 : goal.returns-then-last_in-eq1
-returns-then-last_in-eq1 c = record {
-  passed =
-      passed_last _ _ c.entry-entry.ensures _ _ _ _ c.letter_in.ensures c.words_in-through.ensures _ _ c.loop-node.invariant
-      c.loop-node-test.true (omega (arith, c.if-y-letter_in.false)) c.if-left-through.false
-      (omega (arith, c.if-last_in-eq1.true, c.last_in.ensures));
-  halted = λ h. absurd (omega arith);
-}
+pub returns-then-is_last : goal.returns-then-is_last
+returns-then-is_last c = (
+  _,
+  passed_last _ _ c.entry.ensures _ _ _ _ c.letter.ensures c.words-through.ensures _ _ c.loop-node.invariant
+      c.loop-node-test.true c.if-y-letter.false c.if-left-through.false _ c.is_last.ensures c.if-is_last.true,
+)
 
 pub loop-node-preserved : goal.loop-node-preserved
 loop-node-preserved c =
-    passed_on _ _ c.entry-entry.ensures _ _ _ _ c.letter_in.ensures c.words_in-through.ensures _ _ c.loop-node.invariant
-    c.loop-node-test.true (omega (arith, c.if-y-letter_in.false)) c.if-left-through.false
-    (λ z. c.if-last_in-eq1.false (c.last_in.ensures ∙ z))
-
-pub returns : goal.returns
-returns c = record {
-  passed = c.loop-node.invariant;
-  halted = λ h. absurd (omega (arith, c.loop-node-test.false));
-}
+    passed_on _ _ c.entry.ensures _ _ _ _ c.letter.ensures c.words-through.ensures _ _ c.loop-node.invariant
+    c.loop-node-test.true c.if-y-letter.false c.if-left-through.false _ c.is_last.ensures c.if-is_last.false

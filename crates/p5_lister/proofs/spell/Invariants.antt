@@ -7,9 +7,9 @@ use Rattle.p5_trie.proofs.Spell.{Spell}
 use Rattle.p5_listing.specs.Mirror.{nodes}
 use Rattle.p5_lister.proofs.spell.Given as goal
 
-abbrev pub invariant-loop-node : goal.invariant-loop-node
-invariant-loop-node l =
-    Spell nodes longest_length (take l.at l.initial.out ++ nth (trie_at nodes l.from) l.n) l.out l.len l.node l.left
+abbrev pub invariant-loop-halt : goal.invariant-loop-halt
+invariant-loop-halt l =
+    Spell nodes longest_length (take l.at l.initial.letters ++ nth (trie_at nodes l.from) l.n) l.letters l.len l.row l.left
 
-abbrev pub decreases-loop-node : goal.decreases-loop-node
-decreases-loop-node l = longest_length - l.len
+abbrev pub decreases-loop-halt : goal.decreases-loop-halt
+decreases-loop-halt l = longest_length - l.len

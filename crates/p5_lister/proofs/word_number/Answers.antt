@@ -1,4 +1,3 @@
-use mathlib.Core.Path.{refl}
 use native.Mathlib.Omega.{arith}
 use borrow.Author.Rules.{rules}
 use lib.ListN.{take}
@@ -8,10 +7,8 @@ use Rattle.p5_lister.proofs.Reading.{root_size, root_depth, root_word}
 use Rattle.p5_lister.proofs.Answers.{beyond, numbered}
 use Rattle.p5_lister.proofs.word_number.Goals as goal
 
-ruleset answers = (rules, refl)
-
 pub returns-then-n-ge-TOTAL : goal.returns-then-n-ge-TOTAL
-returns-then-n-ge-TOTAL c = beyond lists _ _ _ c.args.n (omega (arith, c.if-n-ge-TOTAL.true, size_listing)) (search answers) (search answers)
+returns-then-n-ge-TOTAL c = beyond lists _ _ _ c.args.n (omega (arith, c.if-n-ge-TOTAL.true, size_listing)) (search rules) (search rules)
 
 pub spell-word-requires : goal.spell-word-requires
 spell-word-requires c = (omega arith, omega (arith, c.if-n-ge-TOTAL.false, root_size), omega (arith, root_depth))
@@ -19,5 +16,5 @@ spell-word-requires c = (omega arith, omega (arith, c.if-n-ge-TOTAL.false, root_
 pub returns : goal.returns
 returns c =
     numbered lists _ _ _ c.args.n (omega (arith, c.if-n-ge-TOTAL.false, size_listing))
-    (take c.spell-word.result.len c.spell-word.result.letters) (root_word _ c.args.n _ c.spell-word.ensures.1 (search answers))
-    (search answers) (search answers)
+    (take c.spell-word.result.len c.spell-word.result.letters) (root_word _ c.args.n _ c.spell-word.ensures.1 (search rules))
+    (search rules) (search rules)
