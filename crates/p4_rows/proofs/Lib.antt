@@ -2,6 +2,4 @@ pub mod Words
 pub mod InRows
 pub mod Keys
 pub mod Matrices
-pub mod Pairs
-pub mod Spread
 pub mod Only

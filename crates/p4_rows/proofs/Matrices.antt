@@ -1,14 +1,20 @@
 -- A matrix of row numbers as one of yes and no, which is what the code has. A row that it has not goes with none.
 use Prim.Native.Nat.{ℕ, zero, suc, ◌+◌, ◌≤◌, ◌<◌}
-use mathlib.Core.Path.{◌≡◌, refl, sym, ap}
-use mathlib.Core.Bool.{Bool, false}
+use mathlib.Core.Path.{◌≡◌, refl, sym, ap, ◌∙◌}
+use mathlib.Core.Bool.{Bool, true, false, ◌||◌}
 use mathlib.Core.List.{List, [], ◌∷◌, map}
+use mathlib.Core.Logic.{⊎_elim}
 use native.Mathlib.Omega.{arith}
 use lib.Dec.{T, leb}
 use lib.ListN.{length, get_or}
-use Rattle.p0_choice.specs.Choice.{among, from, each}
+use Rattle.std.specs.List.{list_any}
+use Rattle.std.proofs.lemmas.List.Recursion.{or_at, or_from_places}
+use Rattle.p0_choice.specs.Choice.{pick, among, from, each}
+use Rattle.p0_choice.proofs.Numbers.{below_or_not}
 use Rattle.p0_choice.proofs.Tables.{among_above, pick_first, pick_second}
-use Rattle.p4_rows.specs.Lookup.{allows}
+use Rattle.p4_rows.specs.Lookup.{allows, allows_any, go_together}
+use Rattle.p4_rows.specs.Rows.{onset_to_vowels, vowels_to_coda}
+use Rattle.p4_rows.specs.Mirror.{told, any_told}
 
 -- w columns wide
 unfoldable pub yes_no : ℕ → List (List ℕ) → List (List Bool)
@@ -19,22 +25,56 @@ column f zero k j x e h = absurd (omega arith)
 column f (suc w) k zero x e h = let d : k ≡ x = omega arith in ap f d
 column f (suc w) k (suc j) x e h = column f w (suc k) j x (omega arith) (omega arith)
 
-pub yes_no_lem : (w : ℕ) (g : List (List ℕ)) (i j : ℕ) → j < w → get_or (get_or (yes_no w g) i []) j false ≡ allows g i j
-unfolding yes_no allows
-yes_no_lem w [] i j h = refl
-yes_no_lem w (row ∷ g) zero j h = column (λ (x : ℕ). among x row) w 0 j j (omega arith) h
-yes_no_lem w (row ∷ g) (suc i) j h = yes_no_lem w g i j h
+no_column : (f : ℕ → Bool) (w k j : ℕ) → w ≤ j → get_or (map f (from w k)) j false ≡ false
+no_column f zero k j h = refl
+no_column f (suc w) k zero h = absurd (omega arith)
+no_column f (suc w) k (suc j) h = no_column f w (suc k) j (omega arith)
 
-pub no_row : (g : List (List ℕ)) (i j : ℕ) → length g ≤ i → false ≡ allows g i j
-unfolding allows
-no_row [] i j h = refl
-no_row (row ∷ g) zero j h = absurd (omega arith)
-no_row (row ∷ g) (suc i) j h = no_row g i j (omega arith)
+module _ (n : ℕ) where
+  -- n is the greatest number of each row
+  abbrev pub Fits : List (List ℕ) → Type 0
+  Fits g = T (each (λ (row : List ℕ). each (λ (y : ℕ). leb y n) row) g)
 
--- the greatest number of a row is n
-pub no_column : (n : ℕ) (g : List (List ℕ)) → T (each (λ (row : List ℕ). each (λ (y : ℕ). leb y n) row) g) → (i j : ℕ) → n < j
-    → false ≡ allows g i j
-unfolding allows
-no_column n [] t i j h = refl
-no_column n (row ∷ g) t zero j h = sym (among_above row n (rw (pick_first (each (λ (y : ℕ). leb y n) row) _ t) tt) j h)
-no_column n (row ∷ g) t (suc i) j h = no_column n g (pick_second (each (λ (y : ℕ). leb y n) row) _ t) i j h
+  -- so the matrix as yes and no says the same of any two rows
+  told_as : (g : List (List ℕ)) → Fits g → (i j : ℕ) → told (yes_no (suc n) g) i j ≡ allows g i j
+  unfolding yes_no allows
+  told_as [] t i j = refl
+  told_as (row ∷ g) t zero j =
+      ⊎_elim (λ h. column (λ (x : ℕ). among x row) (suc n) 0 j j (omega arith) h)
+      (λ h. no_column (λ (x : ℕ). among x row) (suc n) 0 j h
+      ∙ sym (among_above row n (rw (pick_first (each (λ (y : ℕ). leb y n) row) _ t) tt) j (omega arith)))
+      (below_or_not j (suc n))
+  told_as (row ∷ g) t (suc i) j = told_as g (pick_second (each (λ (y : ℕ). leb y n) row) _ t) i j
+
+  either : (a b c d : Bool) → a ≡ b → c ≡ d → a || c ≡ pick b true d
+  either true b c d e f = rw (← e)
+  either false b c d e f = rw (← e) f
+
+  row_told_as : (g : List (List ℕ)) → Fits g → (i : ℕ) (js : List ℕ) → list_any (told (yes_no (suc n) g) i) js ≡ allows_any g i js
+  unfolding allows_any
+  row_told_as g t i [] = refl
+  row_told_as g t i (j ∷ js) = either _ _ _ _ (told_as g t i j) (row_told_as g t i js)
+
+  -- and of any two parts
+  any_told_as : (g : List (List ℕ)) → Fits g → (is js : List ℕ) → any_told (yes_no (suc n) g) is js ≡ go_together g is js
+  unfolding go_together
+  any_told_as g t [] js = refl
+  any_told_as g t (i ∷ is) js = either _ _ _ _ (row_told_as g t i js) (any_told_as g t is js)
+
+-- ---- a search by the code
+module _ (p : ℕ → Bool) (xs : List ℕ) where
+  pub none_told : ((k : ℕ) → k < length xs → p (get_or xs k 0) ≡ false) → list_any p xs ≡ false
+  none_told h = or_from_places (list_any p) p refl (λ x xs. refl) xs 0 h
+
+  pub one_told : (i : ℕ) → i < length xs → p (get_or xs i 0) ≡ true → list_any p xs ≡ true
+  one_told i h e = or_at (list_any p) p refl (λ x xs. refl) xs i 0 h e
+
+-- ---- the code's two matrices
+module _ (is js : List ℕ) (r : Bool) where
+  pub cv_told : r ≡ any_told (yes_no 8 onset_to_vowels) is js → r ≡ go_together onset_to_vowels is js
+  unfolding onset_to_vowels
+  cv_told e = e ∙ any_told_as 7 onset_to_vowels tt is js
+
+  pub vc_told : r ≡ any_told (yes_no 5 vowels_to_coda) is js → r ≡ go_together vowels_to_coda is js
+  unfolding vowels_to_coda
+  vc_told e = e ∙ any_told_as 4 vowels_to_coda tt is js

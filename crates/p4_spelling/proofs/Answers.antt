@@ -1,18 +1,16 @@
 -- The answers, from what the calls in them answer; at the places of the cut the parts are onset, vowels and coda.
 use Rattle.std.specs.Prelude.{Err, Ok, Result}
 use Prim.Native.Nat.{◌+◌, ◌-◌, ◌<◌, ◌≤◌}
-use mathlib.Core.Path.{◌≡◌, refl, sym, ap, ◌∙◌}
+use mathlib.Core.Path.{◌≡◌, refl, sym, ◌∙◌}
 use mathlib.Core.Bool.{Bool, true}
 use native.Mathlib.Omega.{arith}
 use lib.ListN.{length, take, drop}
 use borrow.Author.Tests.{lt-ltb, le-ltb}
-use Rattle.p0_choice.specs.Choice.{pick}
 use Rattle.p0_refusals.specs.Limits.{letter_limit}
 use Rattle.p0_refusals.specs.declared.Refusal.{Refusal}
 use Rattle.p0_refusals.specs.declared.Refusal.TheVariants.{Long}
 use Rattle.p1_letters.specs.Alphabet.{all_letters}
 use Rattle.p4_rows.specs.Rows.{Word}
-use Rattle.p4_spelling.specs.declared.CutPlaces.{CutPlaces}
 use Rattle.p4_spelling.specs.Cut.{vowel_run, onset_end, vowels_end, onset_of, vowels_of, coda_of}
 use Rattle.p4_spelling.specs.Verdict.{verdict}
 use Rattle.p4_spelling.specs.Answers.{permitted, places_of, verdict_answer, onset_part, vowels_part, coda_part}
@@ -24,7 +22,8 @@ unfolding vowels_end
 run_long w = let e : onset_end w + vowel_run (drop (onset_end w) w) - onset_end w ≡ vowel_run (drop (onset_end w) w) = omega arith in rw e
 
 -- an accepted word is permitted but for its length
-pub says_yes : (w : Word) (r : Bool) → length w ≤ letter_limit → r ≡ verdict w → r ≡ true → ◌≡◌ {A = Result Bool Refusal} (Ok true) (verdict_answer w)
+pub says_yes : (w : Word) (r : Bool) → length w ≤ letter_limit → r ≡ verdict w → r ≡ true
+    → ◌≡◌ {A = Result Bool Refusal} (Ok true) (verdict_answer w)
 unfolding verdict_answer permitted
 says_yes w r l e t = let v : verdict w ≡ true = sym e ∙ t in rw (le-ltb letter_limit (length w) l, accepted_letters w v, v)
 

@@ -1,18 +1,15 @@
 -- The verdict on a word of small letters without tones, from what the calls in it answer.
 use Prim.Native.Nat.{ℕ, zero, suc, ◌-◌, ◌≤◌}
-use mathlib.Core.Path.{◌≡◌, refl, sym, ap, ap₂, ◌∙◌}
+use mathlib.Core.Path.{◌≡◌, refl, sym, ap, ◌∙◌}
 use mathlib.Core.Bool.{Bool, true, false, not}
 use mathlib.Core.List.{List, [], ◌∷◌}
 use native.Mathlib.Omega.{arith}
 use lib.Dec.{T, eqb}
 use lib.ListN.{length, take, drop}
-use borrow.Author.Tests.{eqb-true, eqb-false, ne_eqb}
+use borrow.Author.Tests.{ne_eqb}
 use Rattle.p0_choice.specs.Choice.{pick}
-use Rattle.p4_rows.specs.declared.Rows.{Rows}
 use Rattle.p4_rows.specs.Rows.{Word, onset_rows, vowel_rows, coda_rows, onset_to_vowels, vowels_to_coda}
 use Rattle.p4_rows.specs.Lookup.{rows_of, is_empty, in_rows, allows_any, go_together}
-use Rattle.p4_rows.specs.Mirror.{spread, row_numbers}
-use Rattle.p4_rows.proofs.Spread.{onset_shown, vowels_shown, coda_shown, rows_none, rows_some}
 use Rattle.p4_spelling.specs.declared.CutPlaces.{CutPlaces}
 use Rattle.p4_spelling.specs.Cut.{vowel_run, onset_end, vowels_end, onset_of, vowels_of, coda_of}
 use Rattle.p4_spelling.specs.Verdict.{in_rows_if_any, onset_fits, coda_fits, parts_fit, fits}
@@ -35,10 +32,10 @@ module _ (w : Word) (rows : List ℕ) where
       go [] q = refl
       go (x ∷ u) q = absurd (omega arith)
 
-  pub some_coda : (c : Rows) (r : Bool) → (length w ≡ 0 → ⊥) → c ≡ spread (rows_of coda_rows w)
-      → r ≡ go_together vowels_to_coda rows (row_numbers c) → r ≡ coda_fits rows w
+  pub some_coda : (c : List ℕ) (r : Bool) → (length w ≡ 0 → ⊥) → c ≡ rows_of coda_rows w
+      → r ≡ go_together vowels_to_coda rows c → r ≡ coda_fits rows w
   unfolding coda_fits
-  some_coda c r h e q = q ∙ ap (λ (js : List ℕ). go_together vowels_to_coda rows js) (coda_shown w c e) ∙ go w h
+  some_coda c r h e q = q ∙ ap (go_together vowels_to_coda rows) e ∙ go w h
     where
       go : (u : Word) → (length u ≡ 0 → ⊥) → go_together vowels_to_coda rows (rows_of coda_rows u) ≡ coda_fits rows u
       go [] n = absurd (n refl)
@@ -86,12 +83,17 @@ parts_shorter o v c =
     (onset_in_no_row o (rows_of vowel_rows v)) (coda_in_no_row c (rows_of vowel_rows v))
 
 -- ---- the whole
-by_count : (l : List ℕ) (o : Rows) → o ≡ spread l → not (eqb o.count 0) ≡ pick (is_empty l) false true
-by_count l o e = go (eqb o.count 0) refl
-  where
-    go : (b : Bool) → eqb o.count 0 ≡ b → not b ≡ pick (is_empty l) false true
-    go true q = rw (rows_none l o e (eqb-true o.count 0 q))
-    go false q = rw (rows_some l o e (eqb-false o.count 0 q))
+by_count : (l : List ℕ) → not (eqb (length l) 0) ≡ pick (is_empty l) false true
+by_count [] = refl
+by_count (i ∷ l) = rw (ne_eqb (length (i ∷ l)) 0 (λ (e : length (i ∷ l) ≡ 0). omega arith))
+
+none_listed : (l : List ℕ) → length l ≡ 0 → is_empty l ≡ true
+none_listed [] h = refl
+none_listed (i ∷ l) h = absurd (omega arith)
+
+some_listed : (l : List ℕ) → (length l ≡ 0 → ⊥) → is_empty l ≡ false
+some_listed [] h = absurd (h refl)
+some_listed (i ∷ l) h = refl
 
 module _ (w : Word) (p : CutPlaces) (e : p ≡ places_of w) where
   at_onset : p.onset ≡ onset_end w
@@ -135,42 +137,37 @@ module _ (w : Word) (p : CutPlaces) (e : p ≡ places_of w) where
       go true q = absurd (h (none_run (rw q tt)))
       go false q = refl
 
-  pub bare_onset : (o : Rows) (r : Bool) → p.onset ≡ p.vowels → o ≡ spread (rows_of onset_rows (take (p.onset - 0) w))
-      → r ≡ not (eqb o.count 0) → r ≡ fits w
+  pub bare_onset : (o : List ℕ) (r : Bool) → p.onset ≡ p.vowels → o ≡ rows_of onset_rows (take (p.onset - 0) w)
+      → r ≡ not (eqb (length o) 0) → r ≡ fits w
   unfolding fits in_rows
-  bare_onset o r h q f = f ∙ rw (no_vowels h)
-      (by_count (rows_of onset_rows (onset_of w)) o (q ∙ ap (λ (u : Word). spread (rows_of onset_rows u)) onset_is))
+  bare_onset o r h q f = f ∙ rw (no_vowels h, ← (q ∙ ap (rows_of onset_rows) onset_is)) (by_count o)
 
-  -- the vowels' rows are v's
-  module _ (v : Rows) (h : p.onset ≡ p.vowels → ⊥)
-      (q : v ≡ spread (rows_of vowel_rows (take (p.vowels - p.onset) (drop p.onset w)))) where
-    rows_are : v ≡ spread (rows_of vowel_rows (vowels_of w))
-    rows_are = q ∙ ap (λ (u : Word). spread (rows_of vowel_rows u)) vowels_are
+  -- the vowels' rows are v
+  module _ (v : List ℕ) (h : p.onset ≡ p.vowels → ⊥) (q : v ≡ rows_of vowel_rows (take (p.vowels - p.onset) (drop p.onset w))) where
+    rows_are : v ≡ rows_of vowel_rows (vowels_of w)
+    rows_are = q ∙ ap (rows_of vowel_rows) vowels_are
 
-    whole : fits w ≡ pick (in_rows vowel_rows (vowels_of w))
-        (pick (onset_fits (onset_of w) (rows_of vowel_rows (vowels_of w))) (coda_fits (rows_of vowel_rows (vowels_of w)) (coda_of w)) false) false
+    whole : fits w ≡ pick (in_rows vowel_rows (vowels_of w)) (pick (onset_fits (onset_of w) v) (coda_fits v (coda_of w)) false) false
     unfolding fits
-    whole = rw (some_vowels h) (parts_shorter (onset_of w) (vowels_of w) (coda_of w))
+    whole = rw (some_vowels h, rows_are) (parts_shorter (onset_of w) (vowels_of w) (coda_of w))
 
-    pub vowels_in_no_row : v.count ≡ 0 → false ≡ fits w
+    pub vowels_in_no_row : length v ≡ 0 → false ≡ fits w
     unfolding in_rows
-    vowels_in_no_row c = sym (whole ∙ rw (rows_none (rows_of vowel_rows (vowels_of w)) v rows_are c))
+    vowels_in_no_row c = sym (whole ∙ rw (none_listed (rows_of vowel_rows (vowels_of w)) (rw rows_are at c)))
 
-    module _ (c : v.count ≡ 0 → ⊥) (o : Rows) (d : o ≡ spread (rows_of onset_rows (take (p.onset - 0) w))) (f : Bool)
-        (k : f ≡ pick (eqb p.onset 0) true (go_together onset_to_vowels (row_numbers o) (row_numbers v))) where
-      onset_rows_lem : row_numbers o ≡ rows_of onset_rows (onset_of w)
-      onset_rows_lem = onset_shown (onset_of w) o (d ∙ ap (λ (u : Word). spread (rows_of onset_rows u)) onset_is)
-
-      onset_says : onset_fits (onset_of w) (rows_of vowel_rows (vowels_of w)) ≡ f
+    module _ (c : length v ≡ 0 → ⊥) (o : List ℕ) (d : o ≡ rows_of onset_rows (take (p.onset - 0) w)) (f : Bool)
+        (k : f ≡ pick (eqb p.onset 0) true (go_together onset_to_vowels o v)) where
+      onset_says : onset_fits (onset_of w) v ≡ f
       unfolding onset_fits
-      onset_says = rw no_letters (sym (k ∙ rw (onset_rows_lem, vowels_shown (vowels_of w) v rows_are)))
+      onset_says = rw (no_letters, ← onset_is, ← d) (sym k)
+
+      listed : is_empty (rows_of vowel_rows (vowels_of w)) ≡ false
+      listed = some_listed (rows_of vowel_rows (vowels_of w)) (rw rows_are at c)
 
       pub onset_unfit : f ≡ false → false ≡ fits w
       unfolding in_rows
-      onset_unfit n = sym (whole ∙ rw (rows_some (rows_of vowel_rows (vowels_of w)) v rows_are c, onset_says, n))
+      onset_unfit n = sym (whole ∙ rw (listed, onset_says, n))
 
-      pub coda_decides : (r : Bool) → f ≡ true → r ≡ coda_fits (row_numbers v) (take (length w - p.vowels) (drop p.vowels w)) → r ≡ fits w
+      pub coda_decides : (r : Bool) → f ≡ true → r ≡ coda_fits v (take (length w - p.vowels) (drop p.vowels w)) → r ≡ fits w
       unfolding in_rows
-      coda_decides r n d =
-          d ∙ ap₂ coda_fits (vowels_shown (vowels_of w) v rows_are) coda_is
-          ∙ sym (whole ∙ rw (rows_some (rows_of vowel_rows (vowels_of w)) v rows_are c, onset_says, n))
+      coda_decides r n e = e ∙ ap (coda_fits v) coda_is ∙ sym (whole ∙ rw (listed, onset_says, n))

@@ -1,74 +1,70 @@
 -- The scans of the cut, a letter at a time, and that the places stand in the word in their order.
 use Prim.Native.Nat.{ℕ, suc, ◌+◌, ◌-◌, ◌≤◌, ◌<◌}
 use mathlib.Core.Path.{◌≡◌, refl, sym, ap, ◌∙◌}
-use mathlib.Core.Bool.{Bool, true, false}
+use mathlib.Core.Bool.{Bool, true, false, not, cond}
 use mathlib.Core.List.{[], ◌∷◌}
 use native.Mathlib.Omega.{arith}
-use native.Mathlib.Numerals.{add-one}
-use lib.Dec.{eqb}
-use lib.ListN.{length, take, drop, get_or, length-drop, drop_of_length-le}
-use lib.Seq.{drop-cons, take_all}
-use borrow.Author.Tests.{ne_eqb}
+use Rattle.std.specs.Prelude.{Option, Some, None, unwrap_or, position, nat_lt}
+use Rattle.std.specs.List.{position_or_len}
+use Rattle.std.proofs.lemmas.List.Recursion.{is_position_or_len}
+use lib.ListN.{length, take, drop, get_or, length-drop}
+use lib.Seq.{take_all}
+use borrow.Author.Tests.{ltb-false}
 use Rattle.p0_choice.specs.Choice.{pick}
-use Rattle.p0_choice.specs.Text.{word, words, words_from}
 use Rattle.p1_letters.specs.Vowels.{is_spelling_vowel}
 use Rattle.p4_rows.specs.Rows.{Word}
-use Rattle.p4_rows.specs.Lookup.{same_word, in_list}
 use Rattle.p4_spelling.specs.Cut.{before_vowel, vowel_run, is_glue, starts_glued, onset_end, vowels_end}
 use Rattle.p4_spelling.specs.Answers.{places_of}
 
--- ---- a scan: s is its answer for the whole word, and i + its answer for what is left
-module _ (w : Word) (s i : ℕ) (v : Bool) where
-  before_turn : i < length w → before_vowel (drop i w) ≡ pick (is_spelling_vowel (get_or w i 0)) 0 (suc (before_vowel (drop (suc i) w)))
-  unfolding before_vowel
-  before_turn l = ap before_vowel (drop-cons w i 0 l)
+before_le : (w : Word) → before_vowel w ≤ length w
+unfolding before_vowel
+before_le [] = omega arith
+before_le (x ∷ w) = go (is_spelling_vowel x) (before_le w)
+  where
+    go : (b : Bool) → before_vowel w ≤ length w → pick b 0 (suc (before_vowel w)) ≤ suc (length w)
+    go true h = omega arith
+    go false h = omega arith
 
-  pub before_found : s ≡ i + before_vowel (drop i w) → i < length w → v ≡ is_spelling_vowel (get_or w i 0) → v ≡ true → i ≡ s
-  before_found e l q t = omega (arith, rw (sym q ∙ t) at (before_turn l))
+run_le : (w : Word) → vowel_run w ≤ length w
+unfolding vowel_run
+run_le [] = omega arith
+run_le (x ∷ w) = go (is_spelling_vowel x) (run_le w)
+  where
+    go : (b : Bool) → vowel_run w ≤ length w → pick b (suc (vowel_run w)) 0 ≤ suc (length w)
+    go true h = omega arith
+    go false h = omega arith
 
-  pub before_on : s ≡ i + before_vowel (drop i w) → i < length w → v ≡ is_spelling_vowel (get_or w i 0) → v ≡ false
-      → s ≡ i + 1 + before_vowel (drop (i + 1) w)
-  before_on e l q t = rw (add-one i) (omega (arith, rw (sym q ∙ t) at (before_turn l)))
+-- ---- a scan: r is the first place where it ends
+before_first : (w : Word) → before_vowel w ≡ position_or_len is_spelling_vowel w
+unfolding before_vowel
+before_first w = is_position_or_len before_vowel is_spelling_vowel refl (λ x xs. turned (is_spelling_vowel x) (before_vowel xs)) w
+  where
+    turned : (b : Bool) (n : ℕ) → pick b 0 (suc n) ≡ cond b 0 (1 + n)
+    turned true n = refl
+    turned false n = omega arith
 
-  run_turn : i < length w → vowel_run (drop i w) ≡ pick (is_spelling_vowel (get_or w i 0)) (suc (vowel_run (drop (suc i) w))) 0
-  unfolding vowel_run
-  run_turn l = ap vowel_run (drop-cons w i 0 l)
+run_first : (w : Word) → vowel_run w ≡ position_or_len (λ x. not (is_spelling_vowel x)) w
+unfolding vowel_run
+run_first w =
+    is_position_or_len vowel_run (λ x. not (is_spelling_vowel x)) refl (λ x xs. turned (is_spelling_vowel x) (vowel_run xs)) w
+  where
+    turned : (b : Bool) (n : ℕ) → pick b (suc n) 0 ≡ cond (not b) 0 (1 + n)
+    turned true n = omega arith
+    turned false n = refl
 
-  pub run_found : s ≡ i + vowel_run (drop i w) → i < length w → v ≡ is_spelling_vowel (get_or w i 0) → v ≡ false → i ≡ s
-  run_found e l q t = omega (arith, rw (sym q ∙ t) at (run_turn l))
+first_or_all : (n m : ℕ) → n ≤ m → unwrap_or (cond (nat_lt n m) (Some n) None) m ≡ n
+first_or_all n m h = go (nat_lt n m) refl
+  where
+    go : (b : Bool) → nat_lt n m ≡ b → unwrap_or (cond b (Some n) None) m ≡ n
+    go true e = refl
+    go false e = omega (arith, ltb-false n m e)
 
-  pub run_on : s ≡ i + vowel_run (drop i w) → i < length w → v ≡ is_spelling_vowel (get_or w i 0) → v ≡ true
-      → s ≡ i + 1 + vowel_run (drop (i + 1) w)
-  run_on e l q t = rw (add-one i) (omega (arith, rw (sym q ∙ t) at (run_turn l)))
+module _ (w : Word) (r : Option ℕ) where
+  pub before_is : r ≡ position is_spelling_vowel w → unwrap_or r (length w) ≡ before_vowel w
+  before_is e = rw (e, ← before_first w) (first_or_all (before_vowel w) (length w) (before_le w))
 
-module _ (w : Word) (s i : ℕ) where
-  pub before_done : s ≡ i + before_vowel (drop i w) → length w ≤ i → i ≡ s
-  unfolding before_vowel
-  before_done e l = omega (arith, ap before_vowel (drop_of_length-le w l))
-
-  pub run_done : s ≡ i + vowel_run (drop i w) → length w ≤ i → i ≡ s
-  unfolding vowel_run
-  run_done e l = omega (arith, ap vowel_run (drop_of_length-le w l))
-
--- ---- the glued starts
-module _ (x y : ℕ) where
-  glue_is : is_glue x y ≡ pick (pick (eqb x 0x71) (pick (eqb y 0x75) true false) false) true
-      (pick (pick (eqb x 0x67) (pick (eqb y 0x69) true false) false) true false)
-  unfolding is_glue in_list same_word word words words_from
-  glue_is = refl
-
-  alone : (b : Bool) → b ≡ pick (pick b true false) true false
-  alone true = refl
-  alone false = refl
-
-  pub glue_q : (r : Bool) → x ≡ 0x71 → r ≡ eqb y 0x75 → r ≡ is_glue x y
-  glue_q r e h = h ∙ alone (eqb y 0x75) ∙ sym (glue_is ∙ rw e)
-
-  pub glue_g : (r : Bool) → (x ≡ 0x71 → ⊥) → x ≡ 0x67 → r ≡ eqb y 0x69 → r ≡ is_glue x y
-  glue_g r d e h = h ∙ alone (eqb y 0x69) ∙ sym (glue_is ∙ rw e)
-
-  pub glue_none : (x ≡ 0x71 → ⊥) → (x ≡ 0x67 → ⊥) → false ≡ is_glue x y
-  glue_none d e = sym (glue_is ∙ rw (ne_eqb x 0x71 d, ne_eqb x 0x67 e))
+  pub run_is : r ≡ position (λ x. not (is_spelling_vowel x)) w → unwrap_or r (length w) ≡ vowel_run w
+  run_is e = rw (e, ← run_first w) (first_or_all (vowel_run w) (length w) (run_le w))
 
 -- ---- the end of the onset
 module _ (w : Word) where
@@ -115,24 +111,6 @@ module _ (w : Word) where
   end_glued g v l e f p q = rw (glued_is l) (rw (sym e ∙ f, sym p ∙ q))
 
 -- ---- the places stand in the word, in their order
-before_le : (w : Word) → before_vowel w ≤ length w
-unfolding before_vowel
-before_le [] = omega arith
-before_le (x ∷ w) = go (is_spelling_vowel x) (before_le w)
-  where
-    go : (b : Bool) → before_vowel w ≤ length w → pick b 0 (suc (before_vowel w)) ≤ suc (length w)
-    go true h = omega arith
-    go false h = omega arith
-
-run_le : (w : Word) → vowel_run w ≤ length w
-unfolding vowel_run
-run_le [] = omega arith
-run_le (x ∷ w) = go (is_spelling_vowel x) (run_le w)
-  where
-    go : (b : Bool) → vowel_run w ≤ length w → pick b (suc (vowel_run w)) 0 ≤ suc (length w)
-    go true h = omega arith
-    go false h = omega arith
-
 pub onset_le : (w : Word) → onset_end w ≤ length w
 unfolding onset_end starts_glued
 onset_le [] = before_le []
@@ -140,7 +118,8 @@ onset_le (x ∷ []) = before_le (x ∷ [])
 onset_le (x ∷ y ∷ []) = before_le (x ∷ y ∷ [])
 onset_le (x ∷ y ∷ z ∷ w) = go (pick (is_glue x y) (is_spelling_vowel z) false) (before_le (x ∷ y ∷ z ∷ w))
   where
-    go : (b : Bool) → before_vowel (x ∷ y ∷ z ∷ w) ≤ length (x ∷ y ∷ z ∷ w) → pick b 2 (before_vowel (x ∷ y ∷ z ∷ w)) ≤ length (x ∷ y ∷ z ∷ w)
+    go : (b : Bool) → before_vowel (x ∷ y ∷ z ∷ w) ≤ length (x ∷ y ∷ z ∷ w)
+        → pick b 2 (before_vowel (x ∷ y ∷ z ∷ w)) ≤ length (x ∷ y ∷ z ∷ w)
     go true h = omega arith
     go false h = h
 

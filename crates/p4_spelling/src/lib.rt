@@ -6,7 +6,6 @@ ghost use Rattle.std.specs.Prelude.{◌≡◌, ◌≤◌, length, true, eqb};
 ghost use Rattle.p0_choice.specs.Choice.{pick};
 ghost use Rattle.p4_rows.specs.Rows.{onset_to_vowels};
 ghost use Rattle.p4_rows.specs.Lookup.{go_together};
-ghost use Rattle.p4_rows.specs.Mirror.{row_numbers};
 ghost use Rattle.p4_spelling.specs.Cut.{before_vowel, vowel_run, is_glue, onset_end};
 ghost use Rattle.p4_spelling.specs.Verdict.{coda_fits, fits as fitting, verdict};
 ghost use Rattle.p4_spelling.specs.Answers.{places_of, onset_part, vowels_part, coda_part, cut_answer, verdict_answer};
@@ -14,7 +13,6 @@ ghost use Rattle.p4_spelling.specs.Answers.{places_of, onset_part, vowels_part, 
 use p0_refusals::{LETTERS, Refusal};
 use p1_letters as letters;
 use p4_rows as rows;
-use p4_rows::Rows;
 
 // The letters of the longest accepted word; `longest_length` says the same.
 pub const LONGEST: usize = 8;
@@ -30,103 +28,70 @@ pub struct CutPlaces {
 fn before_vowel(word: &[u32]) -> usize
     ensures { result ≡ before_vowel word.now }
 {
-    let mut i: usize = 0;
-    while i < word.len() {
-        if letters::is_spelling_vowel(word[i]) {
-            return i;
-        }
-        i += 1;
-    }
-    i
+    word.iter()
+        .position(|x| letters::is_spelling_vowel(*x))
+        .unwrap_or(word.len())
 }
 
 // How many vowels the word starts with.
 fn vowel_run(word: &[u32]) -> usize
-    ensures { (result ≡ vowel_run word.now) × (result ≤ length word.now) }
+    ensures { result ≡ vowel_run word.now }
 {
-    let mut i: usize = 0;
-    while i < word.len() {
-        if !letters::is_spelling_vowel(word[i]) {
-            return i;
-        }
-        i += 1;
-    }
-    i
+    word.iter()
+        .position(|x| !letters::is_spelling_vowel(*x))
+        .unwrap_or(word.len())
 }
 
 // q u or g i.
+#[tactic(auto, unfolding(crate::specs::Cut::is_glue, p4_rows::specs::Lookup::in_list, p4_rows::specs::Lookup::same_word, p0_choice::specs::Text::word, p0_choice::specs::Text::words, p0_choice::specs::Text::words_from))]
 fn is_glue(x: u32, y: u32) -> bool
     ensures { result ≡ is_glue x y }
 {
-    if x == 0x71 {
-        return y == 0x75;
-    }
-    if x == 0x67 {
-        return y == 0x69;
-    }
-    false
+    matches!((x, y), (0x71, 0x75) | (0x67, 0x69))
 }
 
+#[tactic(auto, using(crate::proofs::Scans::end_short, crate::proofs::Scans::end_unglued, crate::proofs::Scans::end_no_vowel, crate::proofs::Scans::end_glued))]
 fn onset_end(word: &[u32]) -> usize
-    ensures { (result ≡ onset_end word.now) × (result ≤ length word.now) }
+    ensures { result ≡ onset_end word.now }
 {
-    if word.len() < 3 {
-        return before_vowel(word);
+    match *word {
+        [x, y, z, ..] if is_glue(x, y) && letters::is_spelling_vowel(z) => 2,
+        _ => before_vowel(word),
     }
-    if !is_glue(word[0], word[1]) {
-        return before_vowel(word);
-    }
-    if !letters::is_spelling_vowel(word[2]) {
-        return before_vowel(word);
-    }
-    2
 }
 
 // The places where any word is cut.
+#[tactic(auto, using(crate::proofs::Scans::places_are, crate::proofs::Scans::places_within, crate::proofs::Scans::end_within))]
 pub fn cut_at(word: &[u32]) -> CutPlaces
     ensures { (result ≡ places_of word.now) × (result.onset ≤ result.vowels) × (result.vowels ≤ length word.now) }
 {
     let onset = onset_end(word);
-    let run = vowel_run(&word[onset..]);
     CutPlaces {
         onset,
-        vowels: onset + run,
+        vowels: onset + vowel_run(&word[onset..]),
     }
 }
 
 // The parts of a word between such places; empty where they do not stand in it.
+#[tactic(auto, using(p0_choice::proofs::Choices::picks, crate::proofs::Scans::from_start), unfolding(crate::specs::Answers::onset_part))]
 pub fn onset_part(word: &[u32], at: CutPlaces) -> &[u32]
     ensures { result.now ≡ onset_part word.now at }
 {
-    let end = at.onset;
-    if word.len() < end {
-        return &word[0..0];
-    }
-    &word[0..end]
+    word.get(..at.onset).unwrap_or(&[])
 }
 
+#[tactic(auto, using(p0_choice::proofs::Choices::picks), unfolding(crate::specs::Answers::vowels_part))]
 pub fn vowels_part(word: &[u32], at: CutPlaces) -> &[u32]
     ensures { result.now ≡ vowels_part word.now at }
 {
-    let start = at.onset;
-    let end = at.vowels;
-    if word.len() < end {
-        return &word[0..0];
-    }
-    if end < start {
-        return &word[0..0];
-    }
-    &word[start..end]
+    word.get(at.onset..at.vowels).unwrap_or(&[])
 }
 
+#[tactic(auto, using(p0_choice::proofs::Choices::picks, crate::proofs::Scans::whole_rest), unfolding(crate::specs::Answers::coda_part))]
 pub fn coda_part(word: &[u32], at: CutPlaces) -> &[u32]
     ensures { result.now ≡ coda_part word.now at }
 {
-    let start = at.vowels;
-    if word.len() < start {
-        return &word[0..0];
-    }
-    &word[start..]
+    word.get(at.vowels..).unwrap_or(&[])
 }
 
 // The cut of a permitted word.
@@ -145,65 +110,53 @@ pub fn partition(word: &[u32]) -> Result<CutPlaces, Refusal>
 
 // One of the onset's rows goes with one of the vowels', or the onset has no letters. An onset without rows is not
 // listed, and goes with none.
-fn onset_fits(letters: usize, onset: Rows, vowels: Rows) -> bool
-    ensures { result ≡ pick (eqb letters 0) true (go_together onset_to_vowels (row_numbers onset) (row_numbers vowels)) }
+fn onset_fits(letters: usize, onset: &[usize], vowels: &[usize]) -> bool
+    ensures { result ≡ pick (eqb letters 0) true (go_together onset_to_vowels onset.now vowels.now) }
 {
-    if letters == 0 {
-        return true;
-    }
-    rows::cv_valid(onset, vowels)
+    letters == 0 || rows::cv_valid(onset, vowels)
 }
 
 // The same of the coda, whose search is its own: another row of the vowels may answer it.
-fn coda_fits(vowels: Rows, coda: &[u32]) -> bool
-    ensures { result ≡ coda_fits (row_numbers vowels) coda.now }
+#[tactic(auto, using(crate::proofs::Judging::no_coda_rows, crate::proofs::Judging::some_coda))]
+fn coda_fits(vowels: &[usize], coda: &[u32]) -> bool
+    ensures { result ≡ coda_fits vowels.now coda.now }
 {
-    if coda.len() == 0 {
-        return true;
-    }
-    rows::vc_valid(vowels, rows::lookup_coda(coda))
+    coda.is_empty() || rows::vc_valid(vowels, rows::lookup_coda(coda))
 }
 
 // The verdict on a word of small letters without tones.
+#[tactic(auto, using(crate::proofs::Judging::bare_onset, crate::proofs::Judging::vowels_in_no_row, crate::proofs::Judging::onset_unfit, crate::proofs::Judging::coda_decides))]
 fn fits(word: &[u32]) -> bool
     ensures { result ≡ fitting word.now }
 {
     let at = cut_at(word);
-    let a = at.onset;
-    let b = at.vowels;
-    let onset = rows::lookup_onset(&word[0..a]);
-    if a == b {
-        return onset.count != 0;
+    let onset = rows::lookup_onset(&word[..at.onset]);
+    if at.onset == at.vowels {
+        return !onset.is_empty();
     }
-    let vowels = rows::lookup_vowels(&word[a..b]);
-    if vowels.count == 0 {
-        return false;
-    }
-    if !onset_fits(a, onset, vowels) {
-        return false;
-    }
-    coda_fits(vowels, &word[b..])
+    let vowels = rows::lookup_vowels(&word[at.onset..at.vowels]);
+    !vowels.is_empty()
+        && onset_fits(at.onset, onset, vowels)
+        && coda_fits(vowels, &word[at.vowels..])
 }
 
 // Whether a word is accepted. None that is longer than LONGEST is; and of f j w z, which it may not have, no row has one
 // but the onset z.
+#[tactic(auto, using(crate::proofs::Folding::too_long, crate::proofs::Folding::fold_begin, crate::proofs::Folding::fold_on, crate::proofs::Folding::begins_z, crate::proofs::Folding::folded))]
 pub fn accepts(word: &[u32]) -> bool
     ensures { result ≡ verdict word.now }
 {
-    let n = word.len();
-    if LONGEST < n {
+    if LONGEST < word.len() {
         return false;
     }
     let mut plain = [0u32; LONGEST];
-    let mut i: usize = 0;
-    while i < n {
-        plain[i] = letters::strip_tone(letters::lower(word[i]));
-        i += 1;
+    for (i, x) in word.iter().enumerate() {
+        plain[i] = letters::strip_tone(letters::lower(*x));
     }
     if plain[0] == 0x7a {
         return false;
     }
-    fits(&plain[0..n])
+    fits(&plain[..word.len()])
 }
 
 // The verdict on a permitted word. An accepted word has letters of the alphabet alone, so only the others are asked.

@@ -1,20 +1,10 @@
-use Prim.Native.Nat.{◌≤◌, ◌-◌}
-use mathlib.Core.Path.{◌≡◌}
-use mathlib.Core.Bool.{false}
-use Rattle.p4_rows.specs.Mirror.{pairs_of}
-use Rattle.p4_rows.proofs.Pairs.{RowRest, PairRest}
+use Rattle.std.proofs.Common.{◌≡◌, ℕ, ◌<◌, false, get_or}
+use Rattle.std.specs.List.{list_any}
+use Rattle.p4_rows.specs.Mirror.{told}
 use Rattle.p4_rows.proofs.pair_valid.Given as goal
 
-abbrev pub invariant-loop-j : goal.invariant-loop-j
-invariant-loop-j l =
-    (l.j ≤ l.n) × (l.valid ≡ false) × RowRest (pairs_of l.matrix) l.a l.n l.seconds l.j
+abbrev pub invariant-loop-a : goal.invariant-loop-a
+invariant-loop-a g l = (k : ℕ) → k < l.a-index → list_any (told l.matrix (get_or l.first k 0)) l.second ≡ false
 
-abbrev pub invariant-pairs : goal.invariant-pairs
-invariant-pairs l =
-    (l.i ≤ l.m) × (l.valid ≡ false) × PairRest (pairs_of l.matrix) l.m l.firsts l.n l.seconds l.i
-
-abbrev pub decreases-loop-j : goal.decreases-loop-j
-decreases-loop-j l = l.n - l.j
-
-abbrev pub decreases-pairs : goal.decreases-pairs
-decreases-pairs l = l.m - l.i
+abbrev pub invariant-loop-b : goal.invariant-loop-b
+invariant-loop-b g l = (k : ℕ) → k < l.b-index → told l.matrix (get_or l.first l.a-index 0) (get_or l.second k 0) ≡ false
