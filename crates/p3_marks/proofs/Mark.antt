@@ -11,8 +11,11 @@ use lib.Dec.{eqb}
 use lib.ListN.{length, get_or}
 use borrow.Author.Tests.{eqb-false, not-true}
 use Rattle.p0_choice.specs.Choice.{pick, among}
+use Rattle.p0_choice.proofs.Numbers.{below_or_not}
 use Rattle.p1_letters.specs.Alphabet.{ascii_lower}
-use Rattle.p2_input_method.specs.Rules.{mark_rules, mark_in, mark_for}
+use Rattle.p0_choice.specs.Text.{word}
+use Rattle.p2_input_method.specs.Rules.{mark_rule, mark_rules, mark_in, mark_for}
+use Rattle.p2_input_method.specs.declared.InputMethod.TheVariants.{Telex, Vni}
 use Rattle.p2_input_method.specs.declared.MarkRule.{MarkRule}
 use Rattle.p2_input_method.specs.declared.InputMethod.{InputMethod}
 use Rattle.p3_cells.specs.declared.Cell.{Cell}
@@ -60,10 +63,21 @@ mark_turn m row k i l =
     go false = refl
 
 -- none of them is left
-pub mark_end : (m : InputMethod) (row : List ℕ) (k i : ℕ) → (i + 5 ≤ length row) ⊎ (i ≡ 0)
-    → mark_back m (row_cells row) k (i + 5 - length row) i ≡ None
-mark_end m row k i (inl h) = few m (row_cells row) k (i + 5 - length row) i (inl (omega arith))
-mark_end m row k i (inr h) = few m (row_cells row) k (i + 5 - length row) i (inr h)
+pub mark_end : (m : InputMethod) (row : List ℕ) (k i : ℕ) → i ≤ length row - 5 → mark_back m (row_cells row) k (i + 5 - length row) i ≡ None
+mark_end m row k i h = go (below_or_not i 1)
+  where
+    go : (i < 1) ⊎ (1 ≤ i) → mark_back m (row_cells row) k (i + 5 - length row) i ≡ None
+    go (inl l) = few m (row_cells row) k (i + 5 - length row) i (inr (omega arith))
+    go (inr l) = few m (row_cells row) k (i + 5 - length row) i (inl (omega arith))
+
+-- ---- the keys, as code points: a d e o w and 6 to 9
+pub telex_keys : mark_keys (mark_rules Telex) ≡ 119 ∷ 97 ∷ 101 ∷ 111 ∷ 119 ∷ 119 ∷ 100 ∷ []
+unfolding mark_keys mark_rules mark_rule word
+telex_keys = refl
+
+pub vni_keys : mark_keys (mark_rules Vni) ≡ 54 ∷ 54 ∷ 54 ∷ 55 ∷ 55 ∷ 56 ∷ 57 ∷ []
+unfolding mark_keys mark_rules mark_rule word
+vni_keys = refl
 
 -- ---- a key that is in no rule marks nothing
 none_in : (rs : List MarkRule) (b k : ℕ) → among k (mark_keys rs) ≡ false → mark_in rs b k ≡ 0

@@ -66,7 +66,7 @@ pub fn find_mark_backtrack(m: InputMethod, row: &[u32], k: u32) -> Option<usize>
 }
 
 // The key of a mark rule: a d e o w, or 6 to 9.
-#[tactic(auto, unfolding(crate::specs::Mirror::is_mark_key, crate::specs::Mirror::mark_keys, p2_input_method::specs::Rules::mark_rules, p2_input_method::specs::Rules::mark_rule, p0_choice::specs::Text::word))]
+#[tactic(auto, using(crate::proofs::Mark::telex_keys, crate::proofs::Mark::vni_keys), unfolding(crate::specs::Mirror::is_mark_key))]
 fn is_mark_key(m: InputMethod, k: u32) -> bool
     ensures { result ≡ is_mark_key m k }
 {

@@ -1,7 +1,6 @@
 pub mod Vowels
 pub mod Syllable
 pub mod LastSyllable
-pub mod Pairs
 pub mod Same
 pub mod Bound
 pub mod InWords

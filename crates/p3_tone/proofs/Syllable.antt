@@ -62,24 +62,24 @@ started : (row : List ℕ) (i : ℕ) → i ≤ length row → last_syllable (row
 unfolding syllable_start
 started row i h e = rw (e, length-drop i (row_cells row), row_length row) (omega arith)
 
-module _ (row : List ℕ) (i : ℕ) (e : any_separates (drop i (row_cells row)) ≡ false) (h : i ≤ length row) where
-  module _ (v : Bool) (p : 0 < i) (q : v ≡ is_separator (get_or row (i - 1) 0)) where
-    pub start_found : v ≡ true → i ≡ syllable_start (row_cells row)
-    start_found t =
-        let d : suc (i - 1) ≡ i = omega arith in
-        let l : i - 1 < length (row_cells row) = rw (row_length row) (omega arith) in
-        let s : separates (get_or (row_cells row) (i - 1) blank) ≡ true =
-        rw (row_at row (i - 1), ← separates_bare (get_or row (i - 1) 0)) (sym q ∙ t) in
-        started row i h (rw d at (after_last (row_cells row) (i - 1) l s (rw d e)))
+-- the place i is looked at
+module _ (row : List ℕ) (i : ℕ) (e : any_separates (drop (i + 1) (row_cells row)) ≡ false) (h : i < length row) (v : Bool)
+    (q : v ≡ is_separator (get_or row i 0)) where
+  pub start_found : v ≡ true → i + 1 ≡ syllable_start (row_cells row)
+  start_found t =
+      let d : i + 1 ≡ suc i = omega arith in
+      let l : i < length (row_cells row) = rw (row_length row) h in
+      let s : separates (get_or (row_cells row) i blank) ≡ true = rw (row_at row i, ← separates_bare (get_or row i 0)) (sym q ∙ t) in
+      started row (i + 1) (omega arith) (rw d (after_last (row_cells row) i l s (rw d at e)))
 
-    pub start_on : v ≡ false → any_separates (drop (i - 1) (row_cells row)) ≡ false
-    start_on t =
-        let d : i - 1 + 1 ≡ i = omega arith in
-        let l : i - 1 < length row = omega arith in
-        rw (none_turn row (i - 1) l, ← separates_bare (get_or row (i - 1) 0), ← q, t, d) e
+  pub start_on : v ≡ false → any_separates (drop i (row_cells row)) ≡ false
+  start_on t = rw (none_turn row i h, ← separates_bare (get_or row i 0), ← q, t) e
 
-  pub start_whole : i ≤ 0 → i ≡ syllable_start (row_cells row)
-  start_whole z = let d : i ≡ 0 = omega arith in rw d (started row 0 (omega arith) (whole (row_cells row) (rw d at e)))
+pub start_whole : (row : List ℕ) (i : ℕ) → any_separates (drop i (row_cells row)) ≡ false → i ≤ 0 → 0 ≡ syllable_start (row_cells row)
+start_whole row i e z =
+    let d : i ≡ 0 = omega arith in started row 0 (omega arith) (whole (row_cells row) (rw d at e))
+
+pub ruleset starts = (none_yet, start_found, start_on, start_whole)
 
 -- the syllable is what stands from its start on
 pub last_length : (cs : List Cell) → length (last_syllable cs) ≤ length cs

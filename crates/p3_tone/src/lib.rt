@@ -2,13 +2,12 @@
 // cells a letter is its base, so that one row serves vowels, separators and bases.
 #![tactic(auto)]
 
-ghost use Rattle.std.specs.Prelude.{◌≡◌, false, ◌+◌, ◌<◌, ◌≤◌, eqb, ltb, length, get_or, drop};
+ghost use Rattle.std.specs.Prelude.{◌≡◌, ◌<◌, ◌≤◌, ◌^◌, length, drop};
 ghost use Rattle.p0_choice.specs.Choice.{pick};
-ghost use Rattle.p3_cells.specs.Cells.{blank};
 ghost use Rattle.p3_cells.specs.Mirror.{row_cells};
 ghost use Rattle.std.specs.Prelude.{None as nowhere, Some as at};
-ghost use Rattle.p3_tone.specs.TonePlace.{any_vowel, syllable_start, vowel_places, gliding_pair, glides, rising_pair, rises, tone_place};
-ghost use Rattle.p3_tone.specs.Mirror.{seen_of};
+ghost use Rattle.p3_tone.specs.TonePlace.{any_vowel, syllable_start, vowel_places, gliding_pair, rising_pair, tone_place};
+ghost use Rattle.p3_tone.specs.Mirror.{seen_of, with_first, kept_seen, chosen_seen};
 
 use p1_letters as letters;
 
@@ -34,32 +33,31 @@ struct Scanned {
 fn any_vowel(row: &[u32]) -> bool
     ensures { result ≡ any_vowel (row_cells row.now) }
 {
-    let mut i: usize = 0;
-    while i < row.len() {
-        if letters::is_vowel(row[i]) {
-            return true;
-        }
-        i += 1;
-    }
-    false
+    row.iter().any(|x| letters::is_vowel(*x))
 }
 
-// The nth from the end, once a vowel more was found before the others: that one, as long as there were fewer than n.
-fn nth_last(count: usize, n: usize, place: usize, found: usize) -> usize
-    ensures { result ≡ pick (ltb count n) place found }
+// A vowel more, before the others: it is the first, and one of the last two as long as there are fewer.
+fn with_first(v: Seen, i: usize) -> Seen
+    requires { v.count < 2 ^ 63 }
+    ensures { result ≡ with_first v i }
 {
-    if count < n {
-        return place;
+    Seen {
+        count: v.count + 1,
+        first: i,
+        second: v.first,
+        third: v.second,
+        before: if v.count < 2 { i } else { v.before },
+        last: if v.count < 1 { i } else { v.last },
     }
-    found
 }
 
-// One pass, from the end of the row back: each vowel found is the first, and what was the first is the second.
+// One pass, from the end of the row back to a separator.
+#[tactic(auto, using(crate::proofs::Syllable::starts, crate::proofs::Vowels::seen))]
 fn last_syllable(row: &[u32]) -> Scanned
     ensures { (result.start ≡ syllable_start (row_cells row.now)) × (result.start ≤ length row.now)
         × (result.vowels ≡ seen_of (vowel_places result.start (drop result.start (row_cells row.now)))) }
 {
-    let mut v = Seen {
+    let mut vowels = Seen {
         count: 0,
         first: 0,
         second: 0,
@@ -67,132 +65,98 @@ fn last_syllable(row: &[u32]) -> Scanned
         before: 0,
         last: 0,
     };
-    let mut i = row.len();
-    while 0 < i {
-        if letters::is_separator(row[i - 1]) {
+    for i in (0..row.len()).rev() {
+        if letters::is_separator(row[i]) {
             return Scanned {
-                start: i,
-                vowels: v,
+                start: i + 1,
+                vowels,
             };
         }
-        i -= 1;
-        if !letters::is_vowel(row[i]) {
-            continue;
+        if letters::is_vowel(row[i]) {
+            vowels = with_first(vowels, i);
         }
-        let before = nth_last(v.count, 2, i, v.before);
-        let last = nth_last(v.count, 1, i, v.last);
-        let more = Seen {
-            count: v.count + 1,
-            first: i,
-            second: v.first,
-            third: v.second,
-            before: before,
-            last: last,
-        };
-        v = more;
     }
-    Scanned {
-        start: i,
-        vowels: v,
-    }
+    Scanned { start: 0, vowels }
 }
 
 // q u or g i.
+#[tactic(auto, using(crate::proofs::TonePlace::gliding_are), unfolding(crate::specs::TonePlace::pair_in))]
 fn is_gliding_pair(x: u32, y: u32) -> bool
     ensures { result ≡ gliding_pair x y }
 {
-    match x {
-        113 => y == 117,
-        103 => y == 105,
-        _ => false,
-    }
+    matches!((x, y), (113, 117) | (103, 105))
 }
 
 // oa oe uy iê yê uô ươ io uâ uê uơ.
+#[tactic(auto, using(crate::proofs::TonePlace::rising_are), unfolding(crate::specs::TonePlace::pair_in))]
 fn is_rising_pair(x: u32, y: u32) -> bool
     ensures { result ≡ rising_pair x y }
 {
     match x {
-        105 => match y {
-            111 | 0xea => true,
-            _ => false,
-        },
-        111 => match y {
-            97 | 101 => true,
-            _ => false,
-        },
-        117 => match y {
-            121 | 0xe2 | 0xea | 0xf4 | 0x1a1 => true,
-            _ => false,
-        },
+        105 => matches!(y, 111 | 0xea),
+        111 => matches!(y, 97 | 101),
+        117 => matches!(y, 121 | 0xe2 | 0xea | 0xf4 | 0x1a1),
         121 => y == 0xea,
         0x1b0 => y == 0x1a1,
         _ => false,
     }
 }
 
-// The first vowel is dropped: it is the u of qu or the i of gi, and not the only one.
-fn drops_first(row: &[u32], start: usize, count: usize, first: usize) -> bool
-    requires { (start ≤ length row.now) × (first < length row.now) }
-    ensures { result ≡ pick (ltb count 2) false
-        (pick (eqb first (start + 1)) (glides (drop start (row_cells row.now))) false) }
+// Without the first vowel, if it is the u of qu or the i of gi, and not the only one.
+#[tactic(auto, using(crate::proofs::TonePlace::glides_by), unfolding(crate::specs::Mirror::kept_seen))]
+fn kept(row: &[u32], start: usize, v: Seen) -> Seen
+    requires { (start ≤ length row.now) × (v.first < length row.now) }
+    ensures { result ≡ kept_seen start (drop start (row_cells row.now)) v }
 {
-    if count < 2 {
-        return false;
+    if 2 <= v.count
+        && v.first == start + 1
+        && is_gliding_pair(
+            letters::ascii_lower(row[start]),
+            letters::ascii_lower(row[v.first]),
+        )
+    {
+        Seen {
+            count: v.count - 1,
+            first: v.second,
+            second: v.third,
+            ..v
+        }
+    } else {
+        v
     }
-    if first != start + 1 {
-        return false;
-    }
-    let x = letters::ascii_lower(row[start]);
-    let y = letters::ascii_lower(row[first]);
-    is_gliding_pair(x, y)
 }
 
-// The two cells' letters are such a pair.
-fn rise(row: &[u32], before: usize, last: usize) -> bool
-    requires { (before < length row.now) × (last < length row.now) }
-    ensures { result ≡ rises (get_or (row_cells row.now) before blank) (get_or (row_cells row.now) last blank) }
+#[tactic(auto, using(crate::proofs::TonePlace::rises_by), unfolding(crate::specs::Mirror::chosen_seen))]
+fn chosen(row: &[u32], v: Seen) -> usize
+    requires { (v.before < length row.now) × (v.last < length row.now) }
+    ensures { result ≡ chosen_seen (row_cells row.now) v }
 {
-    let x = letters::ascii_lower(row[before]);
-    let y = letters::ascii_lower(row[last]);
-    is_rising_pair(x, y)
-}
-
-// Of n vowels that are left, by the places of the first two and of the last two.
-fn chosen(row: &[u32], n: usize, first: usize, second: usize, before: usize, last: usize) -> usize
-    requires { (before < length row.now) × (last < length row.now) }
-    ensures { result ≡ pick (eqb n 1) first
-        (pick (rises (get_or (row_cells row.now) before blank) (get_or (row_cells row.now) last blank)) last
-        (pick (ltb n 3) first second)) }
-{
-    if n == 1 {
-        return first;
+    if v.count == 1 {
+        v.first
+    } else if is_rising_pair(
+        letters::ascii_lower(row[v.before]),
+        letters::ascii_lower(row[v.last]),
+    ) {
+        v.last
+    } else if v.count < 3 {
+        v.first
+    } else {
+        v.second
     }
-    if rise(row, before, last) {
-        return last;
-    }
-    if n < 3 {
-        return first;
-    }
-    second
 }
 
 // The cell that takes the tone, where there is a vowel at all.
+#[tactic(auto, using(crate::proofs::TonePlace::row_some, crate::proofs::TonePlace::places))]
 pub fn find_tone_position(row: &[u32]) -> Option<usize>
     ensures { result ≡ pick (any_vowel (row_cells row.now)) (at (tone_place (row_cells row.now))) nowhere }
 {
-    let s = last_syllable(row);
-    let v = s.vowels;
-    if v.count == 0 {
-        if !any_vowel(row) {
-            return None;
-        }
-        return Some(row.len() - 1);
+    let scanned = last_syllable(row);
+    if scanned.vowels.count == 0 {
+        return if any_vowel(row) {
+            Some(row.len() - 1)
+        } else {
+            None
+        };
     }
-    if drops_first(row, s.start, v.count, v.first) {
-        let i = chosen(row, v.count - 1, v.second, v.third, v.before, v.last);
-        return Some(i);
-    }
-    let i = chosen(row, v.count, v.first, v.second, v.before, v.last);
-    Some(i)
+    Some(chosen(row, kept(row, scanned.start, scanned.vowels)))
 }

@@ -2,17 +2,16 @@
 -- use with blank ones after them.
 use Prim.Native.Nat.{ℕ, zero, suc, ◌+◌, ◌*◌, ◌-◌, ◌/◌, ◌%◌, ◌≤◌, ◌<◌}
 use mathlib.Core.Path.{◌≡◌, refl, sym, ap, ◌∙◌}
-use mathlib.Core.Bool.{Bool, true, false, not}
+use mathlib.Core.Bool.{Bool, true, false}
 use mathlib.Core.List.{List}
 use mathlib.Core.Logic.{⊎_elim}
 use native.Mathlib.Omega.{arith}
 use lib.Dec.{eqb, leb}
 use lib.ListN.{length, take, drop, length-drop}
 use lib.Seq.{take_all}
-use borrow.Author.Tests.{eq-eqb, eqb-true, eqb-false, le-leb, leb-true, not-true, not-false}
-use Rattle.p0_choice.specs.Choice.{each, from}
+use borrow.Author.Tests.{eq-eqb, eqb-true, eqb-false, le-leb, lt-leb, leb-true}
+use Rattle.p0_choice.specs.Choice.{pick, each, from}
 use Rattle.p0_choice.proofs.Tables.{each_count}
-use Rattle.p0_choice.proofs.Arms.{not_yes}
 use Rattle.p3_cells.specs.Cells.{limit, blank, is_cell, is_sound}
 use Rattle.p3_cells.specs.Soundness.{Sound}
 use Rattle.p3_cells.specs.declared.Cell.{Cell}
@@ -23,7 +22,7 @@ use Rattle.p6_bytes.specs.Bytes.{head, known, start, size, cell_at, composition_
 use Rattle.p6_zeros.specs.Zeros.{byte_at}
 use Rattle.p6_bytes.specs.Bytes.{reserved_zero, bytes_sound}
 use Rattle.p6_zeros.specs.Zeros.{is_zero}
-use Rattle.p6_bytes.specs.Mirror.{rest_fits, cell_fits, cells_fit}
+use Rattle.p6_bytes.specs.Mirror.{rest_fits, head_fits, cell_fits, cells_fit}
 use Rattle.p6_zeros.specs.Mirror.{zero_in, zero_from}
 use Rattle.p6_zeros.proofs.Zeros.{part_zero}
 use Rattle.p6_bytes.proofs.Reading.{cells_length, cells_at_lem}
@@ -172,41 +171,7 @@ module _ (b : List ℕ) (s : bytes_sound b ≡ true) where
 
 -- ---- the tests that the code makes, in its order
 module _ (b : List ℕ) where
-  pub no_size : (length b ≡ size → ⊥) → false ≡ bytes_sound b
-  no_size f = sym (go (bytes_sound b) refl)
-    where
-      go : (r : Bool) → bytes_sound b ≡ r → r ≡ false
-      go true e = absurd (f (sound_size b e))
-      go false e = refl
-
-  pub no_method : 1 < byte_at b 0 → false ≡ bytes_sound b
-  no_method l = sym (go (bytes_sound b) refl)
-    where
-      go : (r : Bool) → bytes_sound b ≡ r → r ≡ false
-      go true e = absurd (omega (arith, sound_method b e))
-      go false e = refl
-
-  pub no_mode : 1 < byte_at b 1 → false ≡ bytes_sound b
-  no_mode l = sym (go (bytes_sound b) refl)
-    where
-      go : (r : Bool) → bytes_sound b ≡ r → r ≡ false
-      go true e = absurd (omega (arith, sound_mode b e))
-      go false e = refl
-
-  pub no_rest : (v : Bool) → v ≡ rest_fits b → not v ≡ true → false ≡ bytes_sound b
-  no_rest v q t = sym (not_yes (bytes_sound b) v (λ (e : bytes_sound b ≡ true). q ∙ sound_rest b e) (not-true v t))
-
   module _ (n : ℕ) (p : n ≡ byte_at b 2) where
-    pub no_count : limit < n → false ≡ bytes_sound b
-    no_count l = sym (go (bytes_sound b) refl)
-      where
-        go : (r : Bool) → bytes_sound b ≡ r → r ≡ false
-        go true e = absurd (omega (arith, sound_count b e))
-        go false e = refl
-
-    pub no_cells : (v : Bool) → v ≡ cells_fit b n → not v ≡ true → false ≡ bytes_sound b
-    no_cells v q t = sym (not_yes (bytes_sound b) v (λ (e : bytes_sound b ≡ true). q ∙ rw p (sound_cells b e)) (not-true v t))
-
     tests_sound : length b ≡ size → byte_at b 0 ≤ 1 → byte_at b 1 ≤ 1 → n ≤ limit → rest_fits b ≡ true → cells_fit b n ≡ true
         → zero_from b (start n) ≡ true
         → bytes_sound b ≡ true
@@ -243,21 +208,67 @@ module _ (b : List ℕ) where
           past = λ i k h. rw (cells_at_lem limit b head i h) (zero_blank b i (past_zero i (omega arith) h));
         }
 
-    -- the last test decides, on the part past the cells in use
-    pub zero_decides : (r w v : Bool) (part : List ℕ) → length b ≡ size → byte_at b 0 ≤ 1 → byte_at b 1 ≤ 1 → n ≤ limit → w ≡ rest_fits b
-        → not w ≡ false → v ≡ cells_fit b n → not v ≡ false → part ≡ take (size - start n) (drop (start n) b) → r ≡ zero_from part 0
-        → r ≡ bytes_sound b
-    zero_decides r w v part l m o f g d q t h k =
-        let a : take (size - start n) (drop (start n) b) ≡ drop (start n) b =
-        take_all (size - start n) (drop (start n) b) (omega (arith, length-drop (start n) b)) in
-        let e : r ≡ zero_from b (start n) = k ∙ ap (λ (x : List ℕ). zero_from x 0) (h ∙ a) ∙ part_zero b (start n) in
-        both r (bytes_sound b) (λ (h : r ≡ true). tests_sound l m o f (sym g ∙ not-false w d) (sym q ∙ not-false v t) (sym e ∙ h))
-        (λ (h : bytes_sound b ≡ true). e ∙ rw p (sound_zero b h))
+    -- the last test is of the part past the cells in use
+    tests_are : (part : List ℕ) → length b ≡ size → part ≡ take (size - start n) (drop (start n) b)
+        → pick (pick (pick (head_fits b) (leb n limit) false) (cells_fit b n) false) (zero_from part 0) false ≡ bytes_sound b
+    unfolding head_fits
+    tests_are part l h = both _ (bytes_sound b) forth back
       where
+        rest : take (size - start n) (drop (start n) b) ≡ drop (start n) b
+        rest = take_all (size - start n) (drop (start n) b) (omega (arith, length-drop (start n) b))
+
+        past : zero_from part 0 ≡ zero_from b (start n)
+        past = ap (λ (x : List ℕ). zero_from x 0) (h ∙ rest) ∙ part_zero b (start n)
+
+        forth : pick (pick (pick (head_fits b) (leb n limit) false) (cells_fit b n) false) (zero_from part 0) false ≡ true → bytes_sound b ≡ true
+        forth e =
+            let t0 = both_are _ (zero_from part 0) e in
+            let t1 = both_are _ (cells_fit b n) t0.0 in
+            let t2 = both_are _ (leb n limit) t1.0 in
+            let t3 = both_are (leb (byte_at b 0) 1) _ t2.0 in
+            let t4 = both_are (leb (byte_at b 1) 1) (rest_fits b) t3.1 in
+            tests_sound l (leb-true _ 1 t3.0) (leb-true _ 1 t4.0) (leb-true n limit t2.1) t4.1 t1.1 (sym past ∙ t0.1)
+
+        back : bytes_sound b ≡ true → pick (pick (pick (head_fits b) (leb n limit) false) (cells_fit b n) false) (zero_from part 0) false ≡ true
+        back e =
+            rw (
+              le-leb (byte_at b 0) 1 (sound_method b e),
+              le-leb (byte_at b 1) 1 (sound_mode b e),
+              sound_rest b e,
+              le-leb n limit (rw p (sound_count b e)),
+            )
+            (are_both (cells_fit b n) (zero_from part 0) (rw p (sound_cells b e)) (past ∙ rw p (sound_zero b e)))
+
         both : (x y : Bool) → (x ≡ true → y ≡ true) → (y ≡ true → x ≡ true) → x ≡ y
         both true y g h = sym (g refl)
         both false true g h = h refl
         both false false g h = refl
+
+    pub last_decides : (part : List ℕ) → length b ≡ size → part ≡ take (size - start n) (drop (start n) b) → head_fits b ≡ true → n ≤ limit
+        → cells_fit b n ≡ true → zero_from part 0 ≡ bytes_sound b
+    last_decides part l h u v w = let t = tests_are part l h in rw (u, le-leb n limit v, w) at t
+
+    module _ (l : length b ≡ size) where
+      none : (x : Bool) → pick x false false ≡ false
+      none true = refl
+      none false = refl
+
+      pub no_head : head_fits b ≡ false → false ≡ bytes_sound b
+      no_head u = let t = tests_are _ l refl in rw u at t
+
+      pub no_count : limit < n → false ≡ bytes_sound b
+      no_count v = let t = tests_are _ l refl in rw (lt-leb n limit v, none (head_fits b)) at t
+
+      pub no_cells : cells_fit b n ≡ false → false ≡ bytes_sound b
+      no_cells w = let t = tests_are _ l refl in rw (w, none (pick (head_fits b) (leb n limit) false)) at t
+
+-- ---- of another length
+pub no_size : (b : List ℕ) → (length b ≡ size → ⊥) → false ≡ bytes_sound b
+no_size b f = sym (go (bytes_sound b) refl)
+  where
+    go : (r : Bool) → bytes_sound b ≡ r → r ≡ false
+    go true e = absurd (f (sound_size b e))
+    go false e = refl
 
 -- ---- what is read of sound bytes
 module _ (b : List ℕ) (s : bytes_sound b ≡ true) where

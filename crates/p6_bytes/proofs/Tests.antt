@@ -9,15 +9,18 @@ use lib.Dec.{eqb, ltb, leb}
 use borrow.Author.Tests.{ne_eqb, eqb-true, eqb-false, lt-ltb, le-ltb, le-leb, lt-leb, leb-true, leb-false}
 use mir.Syntax.{w8}
 use mir.Val.{Fits}
-use Rattle.p0_choice.specs.Choice.{pick, each, from as numbers}
+use Rattle.p0_choice.specs.Choice.{pick}
 use Rattle.p0_choice.proofs.Tests.{are_both}
 use Rattle.p1_letters.specs.Alphabet.{in_alphabet}
 use Rattle.p3_cells.specs.Cells.{is_cell}
 use Rattle.p3_cells.specs.declared.Cell.{Cell}
 use Rattle.p3_cells.proofs.Soundness.{is_cell_lem}
-use Rattle.p6_bytes.specs.Bytes.{cell_at, start, spells_cell, reserved_zero}
+use Rattle.p3_cells.specs.Cells.{limit}
+use Rattle.p3_cells.specs.Mirror.{cell_of}
+use Rattle.p6_bytes.proofs.Stored.{cell_there}
+use Rattle.p6_bytes.specs.Bytes.{cell_at, start, spells_cell, reserved_zero, composition_of}
 use Rattle.p6_zeros.specs.Zeros.{byte_at, is_zero}
-use Rattle.p6_bytes.specs.Mirror.{rest_fits, cell_fits, cells_fit}
+use Rattle.p6_bytes.specs.Mirror.{rest_fits, head_fits, cell_fits}
 use Rattle.p6_zeros.specs.Mirror.{long_at}
 
 -- ---- the head past the count
@@ -53,6 +56,23 @@ unfolding rest_fits
 rest_below b f w p =
     below b f w _ _ p refl refl ∙ ap (λ (t : Bool). pick (leb (byte_at b 3) 1) t false) (sym (reserved b))
 
+module _ (b : List ℕ) where
+  pub head_rest : ((k : ℕ) → Fits w8 (byte_at b k)) → (w : ℕ) → w ≡ long_at b 0 → byte_at b 0 ≤ 1 → byte_at b 1 ≤ 1 → ltb w 33554432 ≡ head_fits b
+  unfolding head_fits
+  head_rest f w p m o = rw (le-leb (byte_at b 0) 1 m, le-leb (byte_at b 1) 1 o) (rest_below b f w p)
+
+  pub no_method : 1 < byte_at b 0 → false ≡ head_fits b
+  unfolding head_fits
+  no_method h = rw (lt-leb (byte_at b 0) 1 h) refl
+
+  pub no_mode : 1 < byte_at b 1 → false ≡ head_fits b
+  unfolding head_fits
+  no_mode h = rw (lt-leb (byte_at b 1) 1 h) (sym (go (leb (byte_at b 0) 1)))
+    where
+      go : (t : Bool) → pick t false false ≡ false
+      go true = refl
+      go false = refl
+
 -- ---- one cell
 pub ascii_cell : (x : Cell) → x.base < 128 → x.mark ≡ 0 → x.tone ≡ 0 → is_cell x ≡ true
 unfolding in_alphabet
@@ -66,21 +86,10 @@ module _ (b : List ℕ) (i : ℕ) where
       sym (are_both _ _ (le-leb (byte_at b (start i + 7)) 1 (omega arith))
       (ascii_cell (cell_at b (start i)) (omega arith) (omega arith) (omega arith)))
 
-  pub no_flag : (byte_at b (start i + 7) ≡ 0 → ⊥) → (byte_at b (start i + 7) ≡ 1 → ⊥) → false ≡ cell_fits b i
+  pub no_flag : 1 < byte_at b (start i + 7) → false ≡ cell_fits b i
   unfolding cell_fits spells_cell
-  no_flag h k = rw (lt-leb (byte_at b (start i + 7)) 1 (omega arith)) refl
+  no_flag h = rw (lt-leb (byte_at b (start i + 7)) 1 h) refl
 
-  flag_fits : (r : Bool) (x : Cell) → byte_at b (start i + 7) ≤ 1 → x ≡ cell_at b (start i) → r ≡ is_cell x → r ≡ cell_fits b i
+  pub flag_fits : (r : Bool) (x : Cell) → byte_at b (start i + 7) ≤ 1 → x ≡ cell_of (composition_of b) i → i < limit → r ≡ is_cell x → r ≡ cell_fits b i
   unfolding cell_fits spells_cell
-  flag_fits r x h p q = rw (le-leb (byte_at b (start i + 7)) 1 h, ← p) q
-
-  pub flag_off : (r : Bool) (x : Cell) → byte_at b (start i + 7) ≡ 0 → x ≡ cell_at b (start i) → r ≡ is_cell x → r ≡ cell_fits b i
-  flag_off r x h = flag_fits r x (omega arith)
-
-  pub flag_on : (r : Bool) (x : Cell) → byte_at b (start i + 7) ≡ 1 → x ≡ cell_at b (start i) → r ≡ is_cell x → r ≡ cell_fits b i
-  flag_on r x h = flag_fits r x (omega arith)
-
--- ---- the cells in use
-pub fit_is : (b : List ℕ) (n : ℕ) → cells_fit b n ≡ each (cell_fits b) (numbers n 0)
-unfolding cells_fit
-fit_is b n = refl
+  flag_fits r x h p l q = rw (le-leb (byte_at b (start i + 7)) 1 h, cell_there b i (cell_at b (start i)) l refl, ← p) q

@@ -1,2 +1,3 @@
 pub mod Bytes
 pub mod Mirror
+pub mod Lending

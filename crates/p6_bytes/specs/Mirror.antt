@@ -12,6 +12,10 @@ use Rattle.p6_bytes.specs.Bytes.{head, start, size, cell_bytes, cell_at, spells_
 unfoldable pub rest_fits : List ℕ → Bool
 rest_fits b = pick (leb (byte_at b 3) 1) (reserved_zero b) false
 
+-- the head says a method and a mode besides
+unfoldable pub head_fits : List ℕ → Bool
+head_fits b = pick (leb (byte_at b 0) 1) (pick (leb (byte_at b 1) 1) (rest_fits b) false) false
+
 unfoldable pub cell_fits : List ℕ → ℕ → Bool
 cell_fits b i = pick (spells_cell b i) (is_cell (cell_at b (start i))) false
 

@@ -1,12 +1,13 @@
 -- Each way through a call on bytes.
-use Rattle.std.specs.Prelude.{Err, Ok}
+use Rattle.std.specs.Prelude.{Err, Ok, Result}
+use Rattle.p0_refusals.specs.declared.Refusal.{Refusal}
 use Prim.Native.Nat.{ℕ, ◌-◌, ◌<◌, ◌≤◌}
 use mathlib.Core.Path.{◌≡◌, refl, sym, ap, ◌∙◌}
-use mathlib.Core.Bool.{Bool, true, false, not}
+use mathlib.Core.Bool.{Bool, true, false}
 use mathlib.Core.List.{List, [], ◌∷◌, ◌++◌}
 use native.Mathlib.Omega.{arith}
 use lib.ListN.{length, take, drop, set, length-set, drop_of_length-le}
-use borrow.Author.Tests.{not-true, not-false, eq-eqb, ne_eqb, le-leb, lt-leb}
+use borrow.Author.Tests.{eq-eqb, ne_eqb, le-leb, lt-leb}
 use Rattle.p0_choice.specs.Choice.{pick}
 use Rattle.p0_refusals.specs.Answers.{Outcome}
 use Rattle.p0_refusals.specs.declared.Refusal.TheVariants.{Unsound}
@@ -15,41 +16,33 @@ use Rattle.p3_cells.specs.declared.After.{After}
 use Rattle.p6_bytes.specs.Bytes.{size, method_of, bytes_sound}
 use Rattle.p6_zeros.specs.Zeros.{zeros}
 use Rattle.p6_bytes.proofs.Round.{method_forth}
-use Rattle.p6_bytes.proofs.Sound.{sound_size}
 use Rattle.p6_bytes.proofs.Stored.{begun_bytes}
 use Rattle.p6_composition.specs.Calls.{answer_on, bytes_on, out_on, or_unsound, method_on, mode_on, capitals_on, text_on, new_on}
 use Rattle.p6_composition.specs.Calls.{new_bytes}
 
--- the test has let the bytes through
-pub ok_sound : (b : List ℕ) (v : Bool) → v ≡ bytes_sound b → not v ≡ false → bytes_sound b ≡ true
-ok_sound b v e t = sym e ∙ not-false v t
-
-pub ok_size : (b : List ℕ) (v : Bool) → v ≡ bytes_sound b → not v ≡ false → length b ≡ size
-ok_size b v e t = sound_size b (ok_sound b v e t)
-
-module _ (b : List ℕ) (s : After) (v : Bool) (e : v ≡ bytes_sound b) where
-  pub unsound_answer : not v ≡ true → Err Unsound ≡ answer_on b s
+module _ (b : List ℕ) (s : After) (u : bytes_sound b ≡ false) where
+  pub unsound_answer : Err Unsound ≡ answer_on b s
   unfolding answer_on
-  unsound_answer t = rw (← e, not-true v t) refl
+  unsound_answer = rw u refl
 
-  pub unsound_bytes : not v ≡ true → b ≡ bytes_on b s
+  pub unsound_bytes : b ≡ bytes_on b s
   unfolding bytes_on answer_on
-  unsound_bytes t = rw (← e, not-true v t) refl
+  unsound_bytes = rw u refl
 
 -- ---- a lent output
-module _ (b out : List ℕ) (w : Outcome) (v : Bool) (e : v ≡ bytes_sound b) where
-  pub unsound_out : not v ≡ true → out ≡ out_on b w out
+module _ (b out : List ℕ) (w : Outcome) (u : bytes_sound b ≡ false) where
+  pub unsound_out : out ≡ out_on b w out
   unfolding out_on
-  unsound_out t = rw (← e, not-true v t) refl
+  unsound_out = rw u refl
 
 -- ---- the text
-module _ (b : List ℕ) (n : ℕ) (v : Bool) (e : v ≡ bytes_sound b) where
-  pub unsound_text : not v ≡ true → Err Unsound ≡ text_on b n
+module _ (b : List ℕ) (n : ℕ) (u : bytes_sound b ≡ false) where
+  pub unsound_text : Err Unsound ≡ text_on b n
   unfolding text_on
-  unsound_text t = rw (← e, not-true v t) refl
+  unsound_text = rw u refl
 
 -- ---- the settings by their numbers
-both_refuse : (s : Bool) → Err Unsound ≡ pick s (Err Unsound) (Err Unsound)
+both_refuse : (s : Bool) → ◌≡◌ {A = Result ℕ Refusal} (Err Unsound) (pick s (Err Unsound) (Err Unsound))
 both_refuse true = refl
 both_refuse false = refl
 

@@ -36,11 +36,10 @@ use Rattle.p6_bytes.specs.Bytes.{size, bytes_of, composition_of, method_of, byte
 use Rattle.p6_zeros.specs.Zeros.{byte_at}
 use Rattle.p6_bytes.specs.Mirror.{stored, cleared}
 use Rattle.p6_bytes.proofs.Round.{read_written, method_forth, flag_forth}
-use Rattle.p6_bytes.proofs.Sound.{sound_size, sound_composition, sound_count}
+use Rattle.p6_bytes.proofs.Sound.{sound_composition, sound_count}
 use Rattle.p6_bytes.proofs.Stored.{cells_all, cell_stored, count_stored, method_stored, mode_stored, capitals_stored, cells_cleared, lent}
 use Rattle.p6_composition.specs.Calls.{answer_on, bytes_on, out_on, reset_on, literal_on, removal_on, or_unsound, method_on, mode_on}
 use Rattle.p6_composition.specs.Calls.{capitals_on, text_on}
-use Rattle.p6_composition.proofs.Calls.{ok_sound}
 
 -- ---- the loop of the text
 pub text_start : (b o : List ℕ) → o ≡ written_to (composition_of b) 0 o
@@ -61,23 +60,20 @@ text_all b o out i n e l h = let z : i ≡ n = omega arith in rw z at e
 pub set_size : (s : List ℕ) (i x : ℕ) → length s ≡ size → length (set s i x) ≡ size
 set_size s i x e = length-set s i x ∙ e
 
-pub few : (b : List ℕ) (n : ℕ) (v : Bool) → n ≡ (composition_of b).count → v ≡ bytes_sound b → not v ≡ false → n ≤ limit
+pub few : (b : List ℕ) (n : ℕ) → n ≡ (composition_of b).count → bytes_sound b ≡ true → n ≤ limit
 unfolding composition_of
-few b n v p e t = rw p (sound_count b (ok_sound b v e t))
+few b n p s = rw p (sound_count b s)
 
 -- one less: it is a byte, and with a cell there its place is in the array
-module _ (b : List ℕ) (n : ℕ) (v : Bool) (p : n ≡ (composition_of b).count) (e : v ≡ bytes_sound b) (t : not v ≡ false) where
+module _ (b : List ℕ) (n : ℕ) (p : n ≡ (composition_of b).count) (s : bytes_sound b ≡ true) where
   pub less_few : n - 1 ≤ limit
-  less_few = omega (arith, few b n v p e t)
+  less_few = omega (arith, few b n p s)
 
   pub less_byte : Fits w8 (n - 1)
   less_byte = omega (arith, less_few)
 
   pub less_below : (n ≡ 0 → ⊥) → n - 1 < limit
-  less_below z = omega (arith, few b n v p e t)
-
-pub set_ok : (b : List ℕ) (i x : ℕ) (v : Bool) → v ≡ bytes_sound b → not v ≡ false → length (set b i x) ≡ size
-set_ok b i x v e t = set_size b i x (sound_size b (ok_sound b v e t))
+  less_below z = omega (arith, few b n p s)
 
 -- ---- what is told and left, where k is what the call by value leaves
 module _ (b : List ℕ) (s : bytes_sound b ≡ true) (k : After) where
@@ -108,10 +104,7 @@ pub both_stored : (c : Composition) (b s1 : List ℕ) (i m : ℕ) (x : Cell) →
 both_stored c b s1 i m x q l h =
     rw (h, ← q) (ap (λ (y : List ℕ). set y 2 m) (cell_stored c i x l) ∙ count_stored _ m)
 
-module _ (b : List ℕ) (v : Bool) (e : v ≡ bytes_sound b) (t : not v ≡ false) where
-  s : bytes_sound b ≡ true
-  s = ok_sound b v e t
-
+module _ (b : List ℕ) (s : bytes_sound b ≡ true) where
   whole : true ≡ is_sound (composition_of b)
   whole = sym (sound_composition b s)
 
@@ -307,7 +300,7 @@ module _ (b : List ℕ) (v : Bool) (e : v ≡ bytes_sound b) (t : not v ≡ fals
         module _ (x : Cell) (y : x ≡ blank) (s1 : List ℕ) (f : (k : ℕ) → Fits w8 (byte_at b k)) (h : s1 ≡ stored b (n - 1) x) where
           removal_bytes : set s1 2 (n - 1) ≡ bytes_of (with_count (with_cell (composition_of b) (n - 1) x) (n - 1))
           removal_bytes = both_stored (composition_of b) b s1 (n - 1) (n - 1) x (lent b f s)
-              (omega (arith, cells_all b, few b n v p e t)) h
+              (omega (arith, cells_all b, few b n p s)) h
 
           pub removal_stored : set s1 2 (n - 1) ≡ bytes_on b (removal_on b o)
           removal_stored = becomes b s (removal_on b o) _ (n - 1) _ (removal_leaves x y) removal_bytes

@@ -4,5 +4,5 @@ pub mod InPlace
 pub mod OneKey
 pub mod OneUndo
 pub mod Counted
-pub mod Only
 pub mod Back
+pub mod Only

@@ -46,7 +46,6 @@ use Rattle.p6_bytes.proofs.Sound.{sound_composition}
 use Rattle.p6_bytes.proofs.Stored.{cells_all, lent}
 use Rattle.p6_composition.specs.Calls.{answer_on, bytes_on, out_on, key_on}
 use Rattle.p6_composition.specs.Mirror.{applied}
-use Rattle.p6_composition.proofs.Calls.{ok_sound}
 use Rattle.p6_composition.proofs.InPlace.{cell_in, both_stored}
 
 -- ---- the loop of the row
@@ -103,10 +102,7 @@ unfolding letters_to
 all_letters_lem key c n o e = ap (λ (l : List ℕ). l ++ drop n o) (sym (letters_vietnamese c.settings key (first_cells c n) e))
 
 -- ---- what is told and left, where the key's stroke is e
-module _ (b : List ℕ) (v : Bool) (e : v ≡ bytes_sound b) (t : not v ≡ false) (key : ℕ) (o : List ℕ) where
-  s : bytes_sound b ≡ true
-  s = ok_sound b v e t
-
+module _ (b : List ℕ) (s : bytes_sound b ≡ true) (key : ℕ) (o : List ℕ) where
   abbrev IsStroke : Stroke → Type 0
   IsStroke d = d ≡ stroke_of true (composition_of b).settings (row_cells (bases (used (composition_of b)))) key
       (composition_of b).count (length o)
@@ -265,7 +261,7 @@ module _ (b : List ℕ) (v : Bool) (e : v ≡ bytes_sound b) (t : not v ≡ fals
 
 -- ---- the stores as the code makes them
 pub applied_is : (b s1 s2 : List ℕ) (r : Step) (key k : ℕ) (c1 c2 p1 p2 : Cell) (u : Bool) → c1 ≡ cell_of (composition_of b) r.at
-    → c2 ≡ cell_of (composition_of b) r.also → p1 ≡ put_cell r.change r.mark c1 c2 key k → u ≡ (composition_of b).settings.capitals
+    → c2 ≡ cell_of (composition_of b) r.also → p1 ≡ put_cell r.change c1 c2 key k → u ≡ (composition_of b).settings.capitals
     → p2 ≡ also_cell r.change u c2
     → s1 ≡ stored b r.also p2 → s2 ≡ stored s1 r.at p1
     → set s2 2 r.count ≡ applied b r key k

@@ -1,15 +1,12 @@
 -- Each way through undo on bytes. What it leaves is what the undo by value leaves (p3_undo, proofs/Call).
-use Rattle.std.specs.Prelude.{Err, Ok, Result}
+use Rattle.std.specs.Prelude.{Err, Ok, Result, Option, Some, None}
 use Prim.Native.Nat.{ℕ, ◌-◌, ◌<◌, ◌≤◌}
-use Prim.Native.Char.{code}
 use mathlib.Core.Path.{◌≡◌, refl, sym, ap, ◌∙◌}
 use mathlib.Core.Bool.{Bool, true, false, not}
 use mathlib.Core.List.{List}
-use lib.Dec.{eqb}
 use lib.ListN.{length, take, drop}
 use mir.Syntax.{w8}
 use mir.Val.{Fits}
-use Rattle.p0_choice.specs.Choice.{pick}
 use Rattle.p0_refusals.specs.Limits.{letter_limit}
 use Rattle.p0_refusals.specs.declared.Refusal.{Refusal}
 use Rattle.p0_refusals.specs.declared.Refusal.TheVariants.{Foreign, NoUndo as NothingToUndo, Long}
@@ -25,9 +22,8 @@ use Rattle.p3_undo.specs.Mirror.{signs, sign_cells}
 use Rattle.p3_undo.specs.Raw.{raw_lowered}
 use Rattle.p3_undo.specs.Undo.{to_undo, tone_lost, restored}
 use Rattle.p3_undo.specs.declared.TelexUndo.{TelexUndo}
-use Rattle.p3_undo.specs.declared.TelexUndo.TheVariants.{AppendTrigger, ConsumeTrigger, Err as NoUndo}
 use Rattle.p3_undo.specs.declared.Undoing.{Undoing}
-use Rattle.p3_undo.specs.declared.Undoing.TheVariants.{Nothing, Tone, Mark}
+use Rattle.p3_undo.specs.declared.Undoing.TheVariants.{Tone, Mark}
 use Rattle.p3_undo.proofs.Call.{undo_nothing, undo_toneless, undo_restored, undo_long, undo_foreign, undo_raw, undo_done}
 use Rattle.p3_undo.proofs.Found.{tone_place_lem, mark_place_lem}
 use Rattle.p3_undo.proofs.Signs.{row_finds}
@@ -35,34 +31,13 @@ use Rattle.p6_bytes.specs.Bytes.{bytes_of, composition_of, bytes_sound}
 use Rattle.p6_zeros.specs.Zeros.{byte_at}
 use Rattle.p6_bytes.specs.Mirror.{stored}
 use Rattle.p6_bytes.proofs.Sound.{sound_composition}
-use Rattle.p6_composition.specs.UndoAnswer.{undo_answer, undo_leaving}
+use Rattle.p6_composition.specs.UndoAnswer.{undo_number, undo_leaving}
 use Rattle.p6_composition.specs.Calls.{answer_on, bytes_on, undo_on}
 use Rattle.p6_composition.specs.Mirror.{found_on}
-use Rattle.p6_composition.proofs.Calls.{ok_sound}
 use Rattle.p6_composition.proofs.InPlace.{told, stays, becomes, cell_in}
 
--- ---- the answer
-pub appends : (u : TelexUndo) → u ≡ AppendTrigger → Ok 0 ≡ undo_answer u
-appends u e = rw e refl
-
-pub consumes : (u : TelexUndo) → u ≡ ConsumeTrigger → Ok 1 ≡ undo_answer u
-consumes u e = rw e refl
-
-pub no_undo : (u : TelexUndo) (r : Refusal) → u ≡ NoUndo r → Err r ≡ undo_answer u
-no_undo u r e = rw e refl
-
--- a mark that is found is undone
-done_by : (r : MarkRule) → (n : ℕ) × (undo_answer (behaviour r) ≡ Ok n)
-unfolding behaviour
-done_by r = go (eqb r.first (code "d")) (eqb r.key (code "d"))
-  where
-    go : (a b : Bool) → (n : ℕ) × (undo_answer (pick a (pick b ConsumeTrigger AppendTrigger) AppendTrigger) ≡ Ok n)
-    go true true = (1, refl)
-    go true false = (0, refl)
-    go false b = (0, refl)
-
 -- ---- the row
-pub undo_on_lem : (b : List ℕ) → bytes_sound b ≡ true → (z : Settings) (n : ℕ) (row part raw : List ℕ) (t : ℕ) (u : Undoing)
+pub undo_on_lem : (b : List ℕ) → bytes_sound b ≡ true → (z : Settings) (n : ℕ) (row part raw : List ℕ) (t : ℕ) (u : Option Undoing)
     → z ≡ (composition_of b).settings → n ≡ (composition_of b).count → take n row ≡ signs (first_cells (composition_of b) n)
     → part ≡ take (n - 0) (drop 0 row) → u ≡ to_undo z.method (sign_cells part) raw t
     → u ≡ to_undo (composition_of b).settings.method (used (composition_of b)) raw t
@@ -71,58 +46,60 @@ undo_on_lem b s z n row part raw t u p k f g h =
     (rw k at g) h
 
 -- ---- what is found is stored
-module _ (b : List ℕ) (s : bytes_sound b ≡ true) (raw : List ℕ) (t : ℕ) (u : Undoing)
-    (q : u ≡ to_undo (composition_of b).settings.method (used (composition_of b)) (raw_lowered raw) t) where
-  pub tone_there : (i : ℕ) → u ≡ Tone i → i < limit
-  tone_there i z = tone_place_lem (composition_of b) (raw_lowered raw) t u (sound_composition b s) q i z
-
-  pub mark_there : (i : ℕ) (r : MarkRule) → u ≡ Mark i r → i < limit
-  mark_there i r z = mark_place_lem (composition_of b) (raw_lowered raw) t u (sound_composition b s) q i r z
-
-  nothing : u ≡ Nothing → refusing (composition_of b) NothingToUndo ≡ found_on b raw t
+module _ (b : List ℕ) (s : bytes_sound b ≡ true) (raw : List ℕ) (t : ℕ) (o : Option Undoing)
+    (q : o ≡ to_undo (composition_of b).settings.method (used (composition_of b)) (raw_lowered raw) t) where
+  nothing : o ≡ None → refusing (composition_of b) NothingToUndo ≡ found_on b raw t
   unfolding found_on undo_leaving
-  nothing z = ap undo_leaving (undo_nothing (composition_of b) (raw_lowered raw) t u (sound_composition b s) q z)
+  nothing z = ap undo_leaving (undo_nothing (composition_of b) (raw_lowered raw) t o (sound_composition b s) q _ z refl)
 
-  pub nothing_told : u ≡ Nothing → Err NothingToUndo ≡ answer_on b (found_on b raw t)
+  pub nothing_told : o ≡ None → Err NothingToUndo ≡ answer_on b (found_on b raw t)
   nothing_told z = told b s (found_on b raw t) _ (Err NothingToUndo) (nothing z)
 
-  pub nothing_left : u ≡ Nothing → b ≡ bytes_on b (found_on b raw t)
+  pub nothing_left : o ≡ None → b ≡ bytes_on b (found_on b raw t)
   nothing_left z = stays b s (found_on b raw t) NothingToUndo (nothing z)
 
-  module _ (i : ℕ) (x y : Cell) (o : x ≡ cell_of (composition_of b) i) where
-    changed : (new : List ℕ) → ((k : ℕ) → Fits w8 (byte_at b k)) → i < limit → new ≡ stored b i y
-        → new ≡ bytes_of (with_cell (composition_of b) i y)
-    changed new f h m = m ∙ cell_in b f s i y h
+  module _ (u : Undoing) (g : o ≡ Some u) where
+    pub tone_there : (i : ℕ) → u ≡ Tone i → i < limit
+    tone_there i z = tone_place_lem (composition_of b) (raw_lowered raw) t o (sound_composition b s) q u g i z
 
-    module _ (c : u ≡ Tone i) (d : y ≡ tone_lost x) where
-      toned : record { comp = with_cell (composition_of b) i y; answer = Ok 0 } ≡ found_on b raw t
-      unfolding found_on undo_leaving
-      toned = ap undo_leaving (undo_toneless (composition_of b) (raw_lowered raw) t u (sound_composition b s) q i x y c o d)
+    pub mark_there : (i : ℕ) (r : MarkRule) → u ≡ Mark i r → i < limit
+    mark_there i r z = mark_place_lem (composition_of b) (raw_lowered raw) t o (sound_composition b s) q u g i r z
 
-      pub tone_told : Ok 0 ≡ answer_on b (found_on b raw t)
-      tone_told = told b s (found_on b raw t) _ (Ok 0) toned
+    module _ (i : ℕ) where
+      changed : (y : Cell) (new : List ℕ) → ((k : ℕ) → Fits w8 (byte_at b k)) → i < limit → new ≡ stored b i y
+          → new ≡ bytes_of (with_cell (composition_of b) i y)
+      changed y new f h m = m ∙ cell_in b f s i y h
 
-      pub tone_left : (new : List ℕ) → ((k : ℕ) → Fits w8 (byte_at b k)) → new ≡ stored b i y → new ≡ bytes_on b (found_on b raw t)
-      tone_left new f m = becomes b s (found_on b raw t) _ 0 new toned (changed new f (tone_there i c) m)
+      module _ (c : u ≡ Tone i) where
+        toned : record { comp = with_cell (composition_of b) i (tone_lost (cell_of (composition_of b) i)); answer = Ok 0 } ≡ found_on b raw t
+        unfolding found_on undo_leaving
+        toned = ap undo_leaving (undo_toneless (composition_of b) (raw_lowered raw) t o (sound_composition b s) q u g i _ c refl)
 
-    module _ (r : MarkRule) (w : TelexUndo) (c : u ≡ Mark i r) (d : y ≡ restored r.first x) (g : w ≡ behaviour r) where
-      marked : record { comp = with_cell (composition_of b) i y; answer = undo_answer w } ≡ found_on b raw t
-      unfolding found_on undo_leaving
-      marked = ap undo_leaving (undo_restored (composition_of b) (raw_lowered raw) t u (sound_composition b s) q i r x y w c o d g)
+        pub tone_told : Ok 0 ≡ answer_on b (found_on b raw t)
+        tone_told = told b s (found_on b raw t) _ (Ok 0) toned
 
-      pub mark_told : (a : Result ℕ Refusal) → a ≡ undo_answer w → a ≡ answer_on b (found_on b raw t)
-      mark_told a m = m ∙ told b s (found_on b raw t) _ (undo_answer w) marked
+        pub tone_left : (x y : Cell) → x ≡ cell_of (composition_of b) i → y ≡ tone_lost x → (new : List ℕ) → ((k : ℕ) → Fits w8 (byte_at b k))
+            → new ≡ stored b i y → new ≡ bytes_on b (found_on b raw t)
+        tone_left x y e d new f m =
+            becomes b s (found_on b raw t) _ 0 new toned (changed _ new f (tone_there i c) (m ∙ ap (stored b i) (d ∙ ap tone_lost e)))
 
-      pub mark_left : (new : List ℕ) → ((k : ℕ) → Fits w8 (byte_at b k)) → new ≡ stored b i y → new ≡ bytes_on b (found_on b raw t)
-      mark_left new f m =
-          let n = done_by r in
-          becomes b s (found_on b raw t) _ n.0 new (rw (← n.1, ← g) marked) (changed new f (mark_there i r c) m)
+      module _ (r : MarkRule) (w : TelexUndo) (c : u ≡ Mark i r) (d : w ≡ behaviour r) where
+        marked : record { comp = with_cell (composition_of b) i (restored r.first (cell_of (composition_of b) i)); answer = Ok (undo_number w) }
+            ≡ found_on b raw t
+        unfolding found_on undo_leaving
+        marked = ap undo_leaving (undo_restored (composition_of b) (raw_lowered raw) t o (sound_composition b s) q u g i r _ w c refl d)
+
+        pub mark_told : (n : ℕ) → n ≡ undo_number w → Ok n ≡ answer_on b (found_on b raw t)
+        mark_told n m = ap Ok m ∙ told b s (found_on b raw t) _ (Ok (undo_number w)) marked
+
+        pub mark_left : (x y : Cell) → x ≡ cell_of (composition_of b) i → y ≡ restored r.first x → (new : List ℕ)
+            → ((k : ℕ) → Fits w8 (byte_at b k)) → new ≡ stored b i y → new ≡ bytes_on b (found_on b raw t)
+        mark_left x y e z new f m =
+            becomes b s (found_on b raw t) _ (undo_number w) new marked
+            (changed _ new f (mark_there i r c) (m ∙ ap (stored b i) (z ∙ ap (restored r.first) e)))
 
 -- ---- the refusals
-module _ (b : List ℕ) (v : Bool) (e : v ≡ bytes_sound b) (a : not v ≡ false) (k : ℕ) (raw : List ℕ) where
-  s : bytes_sound b ≡ true
-  s = ok_sound b v e a
-
+module _ (b : List ℕ) (s : bytes_sound b ≡ true) (k : ℕ) (raw : List ℕ) where
   whole : true ≡ is_sound (composition_of b)
   whole = sym (sound_composition b s)
 

@@ -12,15 +12,14 @@ ghost use Rattle.p3_key.specs.Process.{key_outcome};
 ghost use Rattle.p3_undo.specs.Mirror.{signs};
 ghost use Rattle.p3_undo.specs.Raw.{raw_lowered};
 ghost use Rattle.p3_undo.specs.Undo.{to_undo};
-ghost use Rattle.p6_bytes.specs.Bytes.{size, composition_of, method_of, bytes_sound};
+ghost use Rattle.p6_bytes.specs.Bytes.{composition_of, bytes_sound};
 ghost use Rattle.p6_composition.specs.Mirror.{applied, found_on};
-ghost use Rattle.p6_composition.specs.UndoAnswer.{undo_answer};
+ghost use Rattle.p6_composition.specs.UndoAnswer.{undo_number};
 ghost use Rattle.p6_composition.specs.Calls.{answer_on, bytes_on, out_on, key_on, reset_on, literal_on, removal_on, undo_on};
 ghost use Rattle.p6_composition.specs.Calls.{method_on, mode_on, capitals_on, text_on, new_on, new_bytes};
 
 use p0_refusals::{LETTERS, Refusal};
 use p1_letters as letters;
-use p2_input_method::InputMethod;
 use p3_cells as cells;
 use p3_cells::{LIMIT, Settings};
 use p3_step as step;
@@ -28,72 +27,62 @@ use p3_step::{Change, Step};
 use p3_undo as undo;
 use p3_undo::{TelexUndo, Undoing};
 use p6_bytes as bytes;
+use p6_bytes::SIZE;
 use p6_zeros as zeros;
 
 // The text of the first n cells, from the start of an output that has room for it.
-fn text(b: &[u8], n: usize, out: &mut [u32])
-    requires { (length b.now ≡ size) × (n ≤ limit) × (n ≤ length out.old) }
+fn text(b: &[u8; SIZE], n: usize, out: &mut [u32])
+    requires { (n ≤ limit) × (n ≤ length out.old) }
     ensures { out.new ≡ first_text (composition_of b.now) n ++ drop n out.old }
 {
     let capitals = bytes::capitals(b);
-    let mut i: usize = 0;
-    while i < n {
+    for i in 0..n {
         out[i] = bytes::shown(b, capitals, i);
-        i += 1;
     }
 }
 
 // ---- a key
 
 // The bases of the first n cells, from the start of a row.
-fn fill(b: &[u8], n: usize, row: &mut [u32])
-    requires { (length b.now ≡ size) × (n ≤ limit) × (n ≤ length row.old) }
+fn fill(b: &[u8; SIZE], n: usize, row: &mut [u32])
+    requires { (n ≤ limit) × (n ≤ length row.old) }
     ensures { take n row.new ≡ bases (first_cells (composition_of b.now) n) }
 {
-    let mut i: usize = 0;
-    while i < n {
-        let x = bytes::cell(b, i);
-        row[i] = x.base;
-        i += 1;
+    for i in 0..n {
+        row[i] = bytes::cell(b, i).base;
     }
 }
 
 // The step of a key in lower case. For one that does not act there is no row.
-fn step_on(b: &[u8], z: Settings, k: u32, n: usize) -> Step
+fn step_on(b: &[u8; SIZE], z: Settings, k: u32, n: usize) -> Step
     requires { (bytes_sound b.now ≡ true) × (n ≡ (composition_of b.now).count) × (n ≤ limit) }
     ensures { result ≡ step_of z (row_cells (bases (used (composition_of b.now)))) k }
 {
-    let m = z.method;
-    if !p3_acts::acts(m, k) {
+    if !p3_acts::acts(z.method, k) {
         return Step {
             change: Change::Append,
             at: n,
             also: n,
-            mark: 0,
             count: n + 1,
         };
     }
     let mut row = [0u32; LIMIT];
     fill(b, n, &mut row);
-    step::first_step(z, &row[0..n], k)
+    step::first_step(z, &row[..n], k)
 }
 
 // Stores the cells of a step, and the count.
-fn apply(b: &mut [u8], s: Step, key: u32, k: u32)
-    requires { (length b.old ≡ size) × (s.at < limit) × (s.also < limit) × (s.count ≤ limit) }
-    ensures { (length b.new ≡ size) × (b.new ≡ applied b.old s key k) }
+fn apply(b: &mut [u8; SIZE], s: Step, key: u32, k: u32)
+    requires { (s.at < limit) × (s.also < limit) × (s.count ≤ limit) }
+    ensures { b.new ≡ applied b.old s key k }
 {
-    let change = s.change;
-    let i = s.at;
-    let j = s.also;
-    let count = s.count as u8;
-    let x = bytes::cell(b, i);
-    let y = bytes::cell(b, j);
-    let p = step::put_cell(change, s.mark, x, y, key, k);
-    let q = step::also_cell(change, bytes::capitals(b), y);
-    bytes::store(b, j, q);
-    bytes::store(b, i, p);
-    b[2] = count;
+    let x = bytes::cell(b, s.at);
+    let y = bytes::cell(b, s.also);
+    let put = step::put_cell(s.change, x, y, key, k);
+    let also = step::also_cell(s.change, bytes::capitals(b), y);
+    bytes::store(b, s.also, also);
+    bytes::store(b, s.at, put);
+    b[2] = s.count as u8;
 }
 
 pub fn process_key(state: &mut [u8], key: u32, out: &mut [u32]) -> Result<usize, Refusal>
@@ -101,9 +90,9 @@ pub fn process_key(state: &mut [u8], key: u32, out: &mut [u32]) -> Result<usize,
         × (state.new ≡ bytes_on state.old (key_on state.old key out.old))
         × (out.new ≡ out_on state.old (key_outcome (composition_of state.old) key) out.old) }
 {
-    if !bytes::bytes_ok(state) {
+    let Some(state) = bytes::checked_mut(state) else {
         return Err(Refusal::Unsound);
-    }
+    };
     if !letters::in_alphabet(key) {
         return Err(Refusal::Foreign);
     }
@@ -136,9 +125,9 @@ pub fn reset(state: &mut [u8]) -> Result<usize, Refusal>
     ensures { (result ≡ answer_on state.old (reset_on state.old))
         × (state.new ≡ bytes_on state.old (reset_on state.old)) }
 {
-    if !bytes::bytes_ok(state) {
+    let Some(state) = bytes::checked_mut(state) else {
         return Err(Refusal::Unsound);
-    }
+    };
     bytes::clear(state);
     Ok(0)
 }
@@ -147,9 +136,9 @@ pub fn append_literal(state: &mut [u8], letter: u32) -> Result<usize, Refusal>
     ensures { (result ≡ answer_on state.old (literal_on state.old letter))
         × (state.new ≡ bytes_on state.old (literal_on state.old letter)) }
 {
-    if !bytes::bytes_ok(state) {
+    let Some(state) = bytes::checked_mut(state) else {
         return Err(Refusal::Unsound);
-    }
+    };
     if !letters::in_alphabet(letter) {
         return Err(Refusal::Foreign);
     }
@@ -157,8 +146,7 @@ pub fn append_literal(state: &mut [u8], letter: u32) -> Result<usize, Refusal>
     if LIMIT <= n {
         return Err(Refusal::Full);
     }
-    let x = cells::typed(letter);
-    bytes::store(state, n, x);
+    bytes::store(state, n, cells::typed(letter));
     state[2] = (n + 1) as u8;
     Ok(0)
 }
@@ -168,9 +156,9 @@ pub fn pop_last(state: &mut [u8], out: &mut [u32]) -> Result<usize, Refusal>
         × (state.new ≡ bytes_on state.old (removal_on state.old out.old))
         × (out.new ≡ out_on state.old (removal_outcome (composition_of state.old)) out.old) }
 {
-    if !bytes::bytes_ok(state) {
+    let Some(state) = bytes::checked_mut(state) else {
         return Err(Refusal::Unsound);
-    }
+    };
     let n = bytes::cell_count(state);
     if n == 0 {
         return Err(Refusal::Empty);
@@ -179,8 +167,7 @@ pub fn pop_last(state: &mut [u8], out: &mut [u32]) -> Result<usize, Refusal>
     if out.len() < m {
         return Err(Refusal::Short);
     }
-    let z = cells::blank();
-    bytes::store(state, m, z);
+    bytes::store(state, m, cells::blank());
     state[2] = m as u8;
     text(state, m, out);
     Ok(m)
@@ -190,9 +177,9 @@ pub fn get_output(state: &[u8], out: &mut [u32]) -> Result<usize, Refusal>
     ensures { (result ≡ text_on state.now (length out.old))
         × (out.new ≡ out_on state.now (text_outcome (composition_of state.now)) out.old) }
 {
-    if !bytes::bytes_ok(state) {
+    let Some(state) = bytes::checked(state) else {
         return Err(Refusal::Unsound);
-    }
+    };
     let n = bytes::cell_count(state);
     if out.len() < n {
         return Err(Refusal::Short);
@@ -204,63 +191,51 @@ pub fn get_output(state: &[u8], out: &mut [u32]) -> Result<usize, Refusal>
 // ---- undo
 
 // The signs of the first n cells, from the start of a row.
-fn fill_signs(b: &[u8], n: usize, row: &mut [u32])
-    requires { (length b.now ≡ size) × (n ≤ limit) × (n ≤ length row.old) }
+fn fill_signs(b: &[u8; SIZE], n: usize, row: &mut [u32])
+    requires { (n ≤ limit) × (n ≤ length row.old) }
     ensures { take n row.new ≡ signs (first_cells (composition_of b.now) n) }
 {
-    let mut i: usize = 0;
-    while i < n {
-        let x = bytes::cell(b, i);
-        row[i] = undo::sign(x);
-        i += 1;
+    for i in 0..n {
+        row[i] = undo::sign(bytes::cell(b, i));
     }
 }
 
 // What a trigger in lower case is to undo.
-fn undo_on(b: &[u8], n: usize, raw: &[u32], t: u32) -> Undoing
+fn undo_on(b: &[u8; SIZE], n: usize, raw: &[u32], t: u32) -> Option<Undoing>
     requires { (bytes_sound b.now ≡ true) × (n ≡ (composition_of b.now).count) × (n ≤ limit) }
     ensures { result ≡ to_undo (composition_of b.now).settings.method (used (composition_of b.now))
         (raw_lowered raw.now) t }
 {
     let z = bytes::settings(b);
-    let m = z.method;
     let mut row = [0u32; LIMIT];
     fill_signs(b, n, &mut row);
-    undo::to_undo(m, &row[0..n], raw, t)
+    undo::to_undo(z.method, &row[..n], raw, t)
 }
 
-// The other calls' answer: a number is told, or a refusal.
-fn undo_answer(u: TelexUndo) -> Result<usize, Refusal>
-    ensures { result ≡ undo_answer u }
+// The number by which a host is told what becomes of the trigger.
+fn undo_number(undone: TelexUndo) -> usize
+    ensures { result ≡ undo_number undone }
 {
-    match u {
-        TelexUndo::AppendTrigger => Ok(0),
-        TelexUndo::ConsumeTrigger => Ok(1),
-        TelexUndo::Refused(why) => Err(why),
-    }
+    undone as usize
 }
 
 // Stores what is found.
-fn undo_found(state: &mut [u8], n: usize, raw: &[u32], t: u32) -> Result<usize, Refusal>
+fn undo_found(state: &mut [u8; SIZE], n: usize, raw: &[u32], t: u32) -> Result<usize, Refusal>
     requires { (bytes_sound state.old ≡ true) × (n ≡ (composition_of state.old).count) × (n ≤ limit) }
     ensures { (result ≡ answer_on state.old (found_on state.old raw.now t))
         × (state.new ≡ bytes_on state.old (found_on state.old raw.now t)) }
 {
-    let u = undo_on(state, n, raw, t);
-    match u {
-        Undoing::Nothing => Err(Refusal::NoUndo),
+    let Some(undoing) = undo_on(state, n, raw, t) else {
+        return Err(Refusal::NoUndo);
+    };
+    match undoing {
         Undoing::Tone(i) => {
-            let x = bytes::cell(state, i);
-            let y = undo::tone_lost(x);
-            bytes::store(state, i, y);
+            bytes::store(state, i, undo::tone_lost(bytes::cell(state, i)));
             Ok(0)
         }
         Undoing::Mark(i, r) => {
-            let x = bytes::cell(state, i);
-            let y = undo::restored(r.first, x);
-            bytes::store(state, i, y);
-            let w = undo::behaviour(r);
-            undo_answer(w)
+            bytes::store(state, i, undo::restored(r.first, bytes::cell(state, i)));
+            Ok(undo_number(undo::behaviour(r)))
         }
     }
 }
@@ -269,9 +244,9 @@ pub fn undo_telex_transform(state: &mut [u8], trigger: u32, raw: &[u32]) -> Resu
     ensures { (result ≡ answer_on state.old (undo_on state.old trigger raw.now))
         × (state.new ≡ bytes_on state.old (undo_on state.old trigger raw.now)) }
 {
-    if !bytes::bytes_ok(state) {
+    let Some(state) = bytes::checked_mut(state) else {
         return Err(Refusal::Unsound);
-    }
+    };
     if LETTERS < raw.len() {
         return Err(Refusal::Long);
     }
@@ -287,22 +262,13 @@ pub fn undo_telex_transform(state: &mut [u8], trigger: u32, raw: &[u32]) -> Resu
 
 // ---- the settings by their numbers
 
-pub fn method_of(method: u32) -> InputMethod
-    ensures { result ≡ method_of method }
-{
-    if method == 0 {
-        return InputMethod::Telex;
-    }
-    InputMethod::Vni
-}
-
 pub fn set_method(state: &mut [u8], method: u32) -> Result<usize, Refusal>
     ensures { (result ≡ answer_on state.old (method_on state.old method))
         × (state.new ≡ bytes_on state.old (method_on state.old method)) }
 {
-    if !bytes::bytes_ok(state) {
+    let Some(state) = bytes::checked_mut(state) else {
         return Err(Refusal::Unsound);
-    }
+    };
     if 1 < method {
         return Err(Refusal::Unsound);
     }
@@ -315,9 +281,9 @@ pub fn set_mode(state: &mut [u8], mode: u32) -> Result<usize, Refusal>
     ensures { (result ≡ answer_on state.old (mode_on state.old mode))
         × (state.new ≡ bytes_on state.old (mode_on state.old mode)) }
 {
-    if !bytes::bytes_ok(state) {
+    let Some(state) = bytes::checked_mut(state) else {
         return Err(Refusal::Unsound);
-    }
+    };
     if 1 < mode {
         return Err(Refusal::Unsound);
     }
@@ -334,9 +300,9 @@ pub fn set_capitals(state: &mut [u8], on: u32) -> Result<usize, Refusal>
     ensures { (result ≡ answer_on state.old (capitals_on state.old on))
         × (state.new ≡ bytes_on state.old (capitals_on state.old on)) }
 {
-    if !bytes::bytes_ok(state) {
+    let Some(state) = bytes::checked_mut(state) else {
         return Err(Refusal::Unsound);
-    }
+    };
     if 1 < on {
         return Err(Refusal::Unsound);
     }
@@ -348,13 +314,13 @@ pub fn set_capitals(state: &mut [u8], on: u32) -> Result<usize, Refusal>
 pub fn new(state: &mut [u8], method: u32) -> Result<usize, Refusal>
     ensures { (result ≡ new_on state.old method) × (state.new ≡ new_bytes state.old method) }
 {
-    if state.len() != bytes::SIZE {
+    let Some(state) = state.as_mut_array::<SIZE>() else {
         return Err(Refusal::Unsound);
-    }
+    };
     if 1 < method {
         return Err(Refusal::Unsound);
     }
     state[0] = method as u8;
-    zeros::put_zeros(state, 1, bytes::SIZE);
+    zeros::put_zeros(state, 1, SIZE);
     Ok(0)
 }

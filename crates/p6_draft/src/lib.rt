@@ -37,27 +37,26 @@ pub const FRAME: usize = HEAD + FIELD;
 // ---- writing
 
 // A field of one byte.
+#[tactic(auto, unfolding(crate::specs::Mirror::put_at, crate::specs::Draft::field))]
 fn put_field(draft: &mut [u8], at: usize, tag: u8, value: u8)
     requires { at + 4 ≤ length draft.old }
     ensures { draft.new ≡ put_at at (field tag (value ∷ [])) draft.old }
 {
-    draft[at] = tag;
-    draft[at + 1] = 0;
-    draft[at + 2] = 1;
-    draft[at + 3] = value;
+    draft[at..at + FIELD].copy_from_slice(&[tag, 0, 1, value]);
 }
 
 // The tag and the length of a field.
+#[tactic(auto, unfolding(crate::specs::Mirror::put_at, crate::specs::Mirror::field_start))]
 fn put_start(draft: &mut [u8], at: usize, tag: u8, n: usize)
     requires { (at + 3 ≤ length draft.old) × (n < 65536) }
     ensures { draft.new ≡ put_at at (field_start tag n) draft.old }
 {
-    draft[at] = tag;
-    draft[at + 1] = (n / 256) as u8;
-    draft[at + 2] = (n % 256) as u8;
+    let [high, low] = (n as u16).to_be_bytes();
+    draft[at..at + 3].copy_from_slice(&[tag, high, low]);
 }
 
 // What stands before the cells, of which there are n.
+#[tactic(auto, using(crate::proofs::Writing::head_put))]
 pub fn put_head(draft: &mut [u8], method: u8, mode: u8, n: usize)
     requires { (draft_head ≤ length draft.old) × (n ≤ limit) }
     ensures { draft.new ≡ put_at 0 (head_fields method mode n) draft.old }
@@ -75,60 +74,60 @@ pub fn put_tail(draft: &mut [u8], capitals: u8, n: usize)
     put_field(draft, HEAD + CELL * n, CAPITALS, capitals);
 }
 
-// Whether a cell has a mark, in the one byte that says so.
-fn mark_byte(x: Cell) -> u8
-    ensures { result ≡ mark_byte x }
+// A cell's bytes. Whether it has a mark is one of them, and the mark itself is its base.
+#[tactic(auto, unfolding(crate::specs::Draft::draft_cell, crate::specs::Draft::mark_byte))]
+fn cell_bytes(x: Cell) -> [u8; CELL]
+    ensures { result ≡ draft_cell x }
 {
-    if x.mark == 0 {
-        return 0;
-    }
-    1
+    let [b0, b1, b2, b3] = x.base.to_be_bytes();
+    [
+        b0,
+        b1,
+        b2,
+        b3,
+        u8::from(x.mark != 0),
+        x.tone,
+        u8::from(x.upper),
+    ]
 }
 
 // The cell at place i.
+#[tactic(auto, using(crate::proofs::Writing::cell_length), unfolding(crate::specs::Mirror::put_at))]
 pub fn put_cell(draft: &mut [u8], i: usize, x: Cell)
-    requires { (i < limit) × (draft_start i + 7 ≤ length draft.old) }
+    requires { draft_start i + 7 ≤ length draft.old }
     ensures { draft.new ≡ put_at (draft_start i) (draft_cell x) draft.old }
 {
     let at = HEAD + CELL * i;
-    draft[at] = (x.base / 16777216) as u8;
-    draft[at + 1] = (x.base / 65536 % 256) as u8;
-    draft[at + 2] = (x.base / 256 % 256) as u8;
-    draft[at + 3] = (x.base % 256) as u8;
-    draft[at + 4] = mark_byte(x);
-    draft[at + 5] = x.tone;
-    draft[at + 6] = bytes::flag_byte(x.upper);
+    draft[at..at + CELL].copy_from_slice(&cell_bytes(x));
 }
 
 // ---- reading
 
 // Four bytes as one number, high byte first: LLVM makes one load of it.
-fn four(b0: u8, b1: u8, b2: u8, b3: u8) -> u32
-    ensures { result ≡ b0 * 16777216 + b1 * 65536 + b2 * 256 + b3 }
-{
-    (b0 as u32) * 16777216 + (b1 as u32) * 65536 + (b2 as u32) * 256 + (b3 as u32)
-}
-
+#[tactic(auto, unfolding(crate::specs::Mirror::four_at))]
 fn four_at(draft: &[u8], at: usize) -> u32
     requires { at + 4 ≤ length draft.now }
     ensures { result ≡ four_at draft.now at }
 {
-    four(draft[at], draft[at + 1], draft[at + 2], draft[at + 3])
+    u32::from_be_bytes([draft[at], draft[at + 1], draft[at + 2], draft[at + 3]])
 }
 
 // A mark is its base. A base of more than two bytes is no letter, and the test of the cell refuses it.
+#[tactic(auto, unfolding(crate::specs::Mirror::read_mark))]
 fn read_mark(byte: u8, base: u32) -> u16
     ensures { result ≡ read_mark byte base }
 {
     if byte == 0 {
-        return 0;
+        0
+    } else {
+        (base % 0x1_0000) as u16
     }
-    (base % 65536) as u16
 }
 
 // The cell at place i.
+#[tactic(auto, unfolding(crate::specs::Mirror::draft_cell_at))]
 pub fn cell(draft: &[u8], i: usize) -> Cell
-    requires { (i < limit) × (draft_start i + 7 ≤ length draft.now) }
+    requires { draft_start i + 7 ≤ length draft.now }
     ensures { result ≡ draft_cell_at draft.now (draft_start i) }
 {
     let at = HEAD + CELL * i;
@@ -143,21 +142,20 @@ pub fn cell(draft: &[u8], i: usize) -> Cell
 }
 
 // Most cells are a letter of ASCII alone: with the byte before it the cell is one load, which two comparisons tell.
+#[tactic(auto, unfolding(crate::specs::Mirror::plain_at))]
 fn plain(draft: &[u8], at: usize) -> bool
     requires { (1 ≤ at) × (at + 7 ≤ length draft.now) }
     ensures { result ≡ plain_at draft.now at }
 {
     let w = zeros::long_at(draft, at - 1);
-    if 549755813888 <= w {
-        return false;
-    }
-    w % 4294967296 < 256
+    w < 0x80_0000_0000 && w % 0x1_0000_0000 < 0x100
 }
 
 // As `cells::is_cell`, by the byte that says whether there is a mark. It is not called here: with a second caller LLVM would no
 // longer put it into the test of a composition's bytes, which every call makes.
+#[tactic(auto, using(crate::proofs::Tests::plain_fits, crate::proofs::Tests::flag_wrong, crate::proofs::Tests::tone_wrong, crate::proofs::Tests::letter_decides, crate::proofs::Tests::mark_other, crate::proofs::Tests::mark_decides, crate::proofs::Tests::mark_wrong))]
 fn cell_fits(draft: &[u8], i: usize) -> bool
-    requires { (i < limit) × (draft_start i + 7 ≤ length draft.now) }
+    requires { draft_start i + 7 ≤ length draft.now }
     ensures { result ≡ draft_cell_fits draft.now i }
 {
     let at = HEAD + CELL * i;
@@ -173,12 +171,7 @@ fn cell_fits(draft: &[u8], i: usize) -> bool
     }
     match draft[at + 4] {
         0 => letters::in_alphabet(x.base),
-        1 => {
-            if x.mark as u32 != x.base {
-                return false;
-            }
-            cells::is_mark(x.mark)
-        }
+        1 => u32::from(x.mark) == x.base && cells::is_mark(x.mark),
         _ => false,
     }
 }
@@ -187,52 +180,33 @@ fn cells_fit(draft: &[u8], n: usize) -> bool
     requires { (n ≤ limit) × (draft_start n ≤ length draft.now) }
     ensures { result ≡ draft_cells_fit draft.now n }
 {
-    let mut i: usize = 0;
-    while i < n {
-        if !cell_fits(draft, i) {
-            return false;
-        }
-        i += 1;
-    }
-    true
+    (0..n).all(|i| cell_fits(draft, i))
 }
 
 // A field of one byte, 0 or 1: tag, length and byte as one number, of which the last bit alone is free.
+#[tactic(auto, unfolding(crate::specs::Mirror::field_fits))]
 fn field_fits(draft: &[u8], at: usize, tag: u8) -> bool
     requires { at + 4 ≤ length draft.now }
     ensures { result ≡ field_fits draft.now at tag }
 {
-    four_at(draft, at) / 2 == (tag as u32) * 8388608 + 128
-}
-
-// Two bytes as one number, high byte first.
-fn two(b0: u8, b1: u8) -> usize
-    ensures { result ≡ b0 * 256 + b1 }
-{
-    (b0 as usize) * 256 + (b1 as usize)
+    four_at(draft, at) / 2 == u32::from(tag) * 0x80_0000 + 0x80
 }
 
 // The fields beside the cells, of which there are n.
+#[tactic(auto, unfolding(crate::specs::Mirror::frame_fits))]
 fn frame_fits(draft: &[u8], n: usize) -> bool
     requires { (n ≤ limit) × (draft_length n ≤ length draft.now) }
     ensures { result ≡ frame_fits draft.now n }
 {
-    if !field_fits(draft, 0, METHOD) {
-        return false;
-    }
-    if !field_fits(draft, FIELD, MODE) {
-        return false;
-    }
-    if draft[8] != CELLS {
-        return false;
-    }
-    if two(draft[9], draft[10]) != CELL * n {
-        return false;
-    }
-    field_fits(draft, HEAD + CELL * n, CAPITALS)
+    field_fits(draft, 0, METHOD)
+        && field_fits(draft, FIELD, MODE)
+        && draft[8] == CELLS
+        && usize::from(u16::from_be_bytes([draft[9], draft[10]])) == CELL * n
+        && field_fits(draft, HEAD + CELL * n, CAPITALS)
 }
 
 // How many cells bytes of this length have.
+#[tactic(auto, unfolding(crate::specs::Mirror::draft_count))]
 pub fn cell_count(draft: &[u8]) -> usize
     requires { draft_frame ≤ length draft.now }
     ensures { result ≡ draft_count draft.now }
@@ -241,6 +215,7 @@ pub fn cell_count(draft: &[u8]) -> usize
 }
 
 // Whether the bytes are the draft of a sound composition.
+#[tactic(auto, unfolding(crate::specs::Mirror::is_draft))]
 pub fn is_draft(draft: &[u8]) -> bool
     ensures { result ≡ is_draft draft.now }
 {
@@ -248,27 +223,17 @@ pub fn is_draft(draft: &[u8]) -> bool
         return false;
     }
     let n = cell_count(draft);
-    if LIMIT < n {
-        return false;
-    }
-    if draft.len() != FRAME + CELL * n {
-        return false;
-    }
-    if !frame_fits(draft, n) {
-        return false;
-    }
-    cells_fit(draft, n)
+    n <= LIMIT && draft.len() == FRAME + CELL * n && frame_fits(draft, n) && cells_fit(draft, n)
 }
 
+#[tactic(auto, unfolding(crate::specs::Mirror::draft_settings))]
 pub fn settings(draft: &[u8], n: usize) -> Settings
     requires { (n ≤ limit) × (draft_length n ≤ length draft.now) }
     ensures { result ≡ draft_settings draft.now n }
 {
-    let method = bytes::method_of(draft[3]);
-    let mode = bytes::mode_of(draft[7]);
     Settings {
-        method,
-        mode,
+        method: bytes::method_of(draft[3]),
+        mode: bytes::mode_of(draft[7]),
         capitals: draft[HEAD + CELL * n + 3] == 1,
     }
 }

@@ -46,9 +46,9 @@ module _ (b s : List ℕ) where
       (m.0, m.1, rw (ne_eqb (length s) size h) refl, rw (ne_eqb (length s) size h) refl)
 
   module _ (l : length s ≡ size) (v : Bool) (e : v ≡ is_draft b) where
-    pub read_none : not v ≡ true → ReadOn b s (Err NoDraft) s
+    pub read_none : (new : List ℕ) → not v ≡ true → new ≡ s → ReadOn b s (Err NoDraft) new
     unfolding read_on read_bytes read_to
-    read_none t = (none, fails_means b v e t, rw (eq-eqb (length s) size l) refl, rw (eq-eqb (length s) size l) refl)
+    read_none new t p = (none, fails_means b v e t, rw (eq-eqb (length s) size l) refl, rw (eq-eqb (length s) size l) p)
 
     pub read_done : (new : List ℕ) → not v ≡ false → ((k : ℕ) → Fits w8 (byte_at b k)) → new ≡ bytes_of (draft_composition b)
         → ReadOn b s (Ok 0) new

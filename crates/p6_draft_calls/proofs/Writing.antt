@@ -2,7 +2,7 @@
 -- is to write, and n its count.
 use Rattle.std.specs.Prelude.{Err, Ok}
 use Prim.Native.Nat.{ℕ, ◌*◌, ◌≤◌, ◌<◌}
-use mathlib.Core.Path.{◌≡◌, refl, sym, ◌∙◌}
+use mathlib.Core.Path.{◌≡◌, refl, sym, ap, ◌∙◌}
 use mathlib.Core.Bool.{Bool, true, false, not}
 use mathlib.Core.List.{List, [], ◌∷◌}
 use native.Mathlib.Omega.{arith}
@@ -18,9 +18,9 @@ use Rattle.p3_cells.specs.Cells.{limit, used, is_sound}
 use Rattle.p3_cells.specs.Mirror.{first_cells}
 use Rattle.p3_cells.specs.declared.Composition.{Composition}
 use Rattle.p3_cells.proofs.Holding.{count_fits, used_length}
-use Rattle.p6_bytes.specs.Bytes.{size, method_byte, mode_byte, flag_byte, composition_of, bytes_sound}
+use Rattle.p6_bytes.specs.Bytes.{method_byte, mode_byte, flag_byte, composition_of, bytes_sound}
 use Rattle.p6_bytes.proofs.Fields.{method_field, mode_field, capitals_number_field}
-use Rattle.p6_bytes.proofs.Sound.{sound_size, sound_composition}
+use Rattle.p6_bytes.proofs.Sound.{sound_composition}
 use Rattle.p6_zeros.specs.Zeros.{byte_at}
 use Rattle.p6_draft.specs.Draft.{field, draft_cells, draft_of}
 use Rattle.p6_draft.specs.Mirror.{draft_head, draft_start, draft_length, put_at, head_fields}
@@ -125,61 +125,48 @@ bytes_is b = go (bytes_sound b) refl
     go true e = rw (sound_composition b e) refl
     go false e = refl
 
-module _ (b : List ℕ) (v : Bool) (e : v ≡ bytes_sound b) where
-  pub bytes_unsound : not v ≡ true → (n : ℕ) → Err Unsound ≡ answer (bytes_outcome b) n
-  bytes_unsound = unsound_told (bytes_sound b) (composition_of b) (bytes_outcome b) (bytes_is b) v e
+module _ (b : List ℕ) where
+  pub bytes_unsound : bytes_sound b ≡ false → (n : ℕ) → Err Unsound ≡ answer (bytes_outcome b) n
+  bytes_unsound q = unsound_told (bytes_sound b) (composition_of b) (bytes_outcome b) (bytes_is b) (bytes_sound b) refl (ap not q)
 
-  pub bytes_unsound_out : not v ≡ true → (o : List ℕ) → o ≡ output (bytes_outcome b) o
-  bytes_unsound_out = unsound_kept (bytes_sound b) (composition_of b) (bytes_outcome b) (bytes_is b) v e
+  pub bytes_unsound_out : bytes_sound b ≡ false → (o : List ℕ) → o ≡ output (bytes_outcome b) o
+  bytes_unsound_out q = unsound_kept (bytes_sound b) (composition_of b) (bytes_outcome b) (bytes_is b) (bytes_sound b) refl (ap not q)
 
-  module _ (q : not v ≡ false) where
-    pub bytes_ok : bytes_sound b ≡ true
-    bytes_ok = sym e ∙ not-false v q
+  module _ (s : bytes_sound b ≡ true) (n : ℕ) (p : n ≡ (composition_of b).count) where
+    pub bytes_few : n ≤ limit
+    bytes_few = rw p (count_fits (composition_of b) (sound_composition b s))
 
-    pub bytes_size : length b ≡ size
-    bytes_size = sound_size b bytes_ok
+    pub bytes_cells : Fits w64 (7 * n)
+    bytes_cells = omega (arith, bytes_few)
 
-    pub bytes_there : (i : ℕ) → i < size → i < length b
-    bytes_there i h = let l = bytes_size in omega arith
+    pub bytes_length : Fits w64 (draft_length n)
+    bytes_length = omega (arith, bytes_few)
 
-    module _ (n : ℕ) (p : n ≡ (composition_of b).count) where
-      pub bytes_few : n ≤ limit
-      bytes_few = rw p (count_fits (composition_of b) (sound_composition b bytes_ok))
+    module _ (o : List ℕ) where
+      pub bytes_short : length o < draft_length n → Err Short ≡ answer (bytes_outcome b) (length o)
+      bytes_short = short_told _ (composition_of b) (bytes_outcome b) (bytes_is b) _ refl (sound_composition b) (ap not s) n p o
 
-      pub bytes_cells : Fits w64 (7 * n)
-      bytes_cells = omega (arith, bytes_few)
+      pub bytes_short_out : length o < draft_length n → o ≡ output (bytes_outcome b) o
+      bytes_short_out = short_kept _ (composition_of b) (bytes_outcome b) (bytes_is b) _ refl (sound_composition b) (ap not s) n p o
 
-      pub bytes_length : Fits w64 (draft_length n)
-      bytes_length = omega (arith, bytes_few)
+      pub bytes_told : draft_length n ≤ length o → Ok (draft_length n) ≡ answer (bytes_outcome b) (length o)
+      bytes_told = written_told _ (composition_of b) (bytes_outcome b) (bytes_is b) _ refl (sound_composition b) (ap not s) n p o
 
-      module _ (o : List ℕ) where
-        pub bytes_short : length o < draft_length n → Err Short ≡ answer (bytes_outcome b) (length o)
-        bytes_short = short_told (bytes_sound b) (composition_of b) (bytes_outcome b) (bytes_is b) v e (sound_composition b) q n p o
-
-        pub bytes_short_out : length o < draft_length n → o ≡ output (bytes_outcome b) o
-        bytes_short_out = short_kept (bytes_sound b) (composition_of b) (bytes_outcome b) (bytes_is b) v e (sound_composition b) q n p o
-
-        pub bytes_told : draft_length n ≤ length o → Ok (draft_length n) ≡ answer (bytes_outcome b) (length o)
-        bytes_told = written_told (bytes_sound b) (composition_of b) (bytes_outcome b) (bytes_is b) v e (sound_composition b) q n p o
-
-        -- each setting is a byte of its own
-        pub bytes_out : draft_length n ≤ length o
-            → (b1 b2 new : List ℕ) → b1 ≡ put_at 0 (head_fields (byte_at b 0) (byte_at b 1) n) o
-            → b2 ≡ put_at draft_head (draft_cells (first_cells (composition_of b) n)) b1
-            → new ≡ put_at (draft_start n) (field 4 (byte_at b 3 ∷ [])) b2
-            → new ≡ output (bytes_outcome b) o
-        unfolding used
-        bytes_out h b1 b2 new x y z =
-            written_out (bytes_sound b) (composition_of b) (bytes_outcome b) (bytes_is b) v e (sound_composition b) q n p o h b1 b2 new
-            (byte_at b 0) (byte_at b 1) (byte_at b 3) (method_field b bytes_ok (byte_at b 0) refl) (mode_field b bytes_ok (byte_at b 1) refl)
-            (capitals_number_field b bytes_ok (byte_at b 3) refl) x (rw p at y) z
+      -- each setting is a byte of its own
+      pub bytes_out : draft_length n ≤ length o
+          → (b1 b2 new : List ℕ) → b1 ≡ put_at 0 (head_fields (byte_at b 0) (byte_at b 1) n) o
+          → b2 ≡ put_at draft_head (draft_cells (first_cells (composition_of b) n)) b1
+          → new ≡ put_at (draft_start n) (field 4 (byte_at b 3 ∷ [])) b2
+          → new ≡ output (bytes_outcome b) o
+      unfolding used
+      bytes_out h b1 b2 new x y z =
+          written_out _ (composition_of b) (bytes_outcome b) (bytes_is b) _ refl (sound_composition b) (ap not s) n p o h b1 b2 new
+          (byte_at b 0) (byte_at b 1) (byte_at b 3) (method_field b s (byte_at b 0) refl) (mode_field b s (byte_at b 1) refl)
+          (capitals_number_field b s (byte_at b 3) refl) x (rw p at y) z
 
 pub ruleset bytes_ways = (
   bytes_unsound,
   bytes_unsound_out,
-  bytes_ok,
-  bytes_size,
-  bytes_there,
   bytes_few,
   bytes_cells,
   bytes_length,

@@ -2,46 +2,21 @@
 ghost use Rattle.std.specs.Prelude.{◌≡◌, true, ◌≤◌, length};
 ghost use Rattle.p0_refusals.specs.Answers.{answer, output};
 ghost use Rattle.p3_cells.specs.Cells.{limit, used};
-ghost use Rattle.p6_bytes.specs.Bytes.{method_byte, mode_byte};
 ghost use Rattle.p6_draft.specs.Draft.{draft_cells, Reading, Means};
 ghost use Rattle.p6_draft.specs.Mirror.{draft_head, draft_start, put_at, draft_composition, is_draft};
 ghost use Rattle.p6_draft_calls.specs.Calls.{draft_outcome, read_to};
 
-use p0_refusals::{Refusal};
-use p2_input_method::InputMethod;
+use p0_refusals::Refusal;
 use p3_cells as cells;
-use p3_cells::{After, Composition, Mode};
-use p6_bytes as bytes;
+use p3_cells::{After, Composition};
 use p6_draft as form;
-
-fn method_byte(m: InputMethod) -> u8
-    ensures { result ≡ method_byte m }
-{
-    match m {
-        InputMethod::Telex => 0,
-        InputMethod::Vni => 1,
-    }
-}
-
-fn mode_byte(o: Mode) -> u8
-    ensures { result ≡ mode_byte o }
-{
-    match o {
-        Mode::Vietnamese => 0,
-        Mode::English => 1,
-    }
-}
 
 fn put_cells(c: Composition, draft: &mut [u8])
     requires { (c.count ≤ limit) × (draft_start c.count ≤ length draft.old) }
     ensures { draft.new ≡ put_at draft_head (draft_cells (used c)) draft.old }
 {
-    let n = c.count;
-    let mut i: usize = 0;
-    while i < n {
-        let x = c.cells[i];
-        form::put_cell(draft, i, x);
-        i += 1;
+    for i in 0..c.count {
+        form::put_cell(draft, i, c.cells[i]);
     }
 }
 
@@ -59,11 +34,9 @@ pub fn write(c: Composition, draft: &mut [u8]) -> Result<usize, Refusal>
         return Err(Refusal::Short);
     }
     let z = c.settings;
-    let method = z.method;
-    let mode = z.mode;
-    form::put_head(draft, method_byte(method), mode_byte(mode), n);
+    form::put_head(draft, z.method as u8, z.mode as u8, n);
     put_cells(c, draft);
-    form::put_tail(draft, bytes::flag_byte(z.capitals), n);
+    form::put_tail(draft, u8::from(z.capitals), n);
     Ok(m)
 }
 
@@ -76,11 +49,8 @@ fn composition(draft: &[u8]) -> Composition
     let z = form::settings(draft, n);
     let mut c = p3_calls::empty(z);
     c.count = n;
-    let mut i: usize = 0;
-    while i < n {
-        let x = form::cell(draft, i);
-        c.cells[i] = x;
-        i += 1;
+    for i in 0..n {
+        c.cells[i] = form::cell(draft, i);
     }
     c
 }
@@ -95,9 +65,8 @@ pub fn read(c: Composition, draft: &[u8]) -> After
             answer: Err(Refusal::NoDraft),
         };
     }
-    let d = composition(draft);
     After {
-        comp: d,
+        comp: composition(draft),
         answer: Ok(0),
     }
 }

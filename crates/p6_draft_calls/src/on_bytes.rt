@@ -8,22 +8,20 @@ ghost use Rattle.p6_draft.specs.Draft.{draft_cells, Reading, Means};
 ghost use Rattle.p6_draft.specs.Mirror.{draft_head, draft_start, put_at, draft_composition, is_draft};
 ghost use Rattle.p6_draft_calls.specs.Calls.{bytes_outcome, read_on, read_bytes};
 
-use p0_refusals::{Refusal};
+use p0_refusals::Refusal;
 use p6_bytes as bytes;
+use p6_bytes::SIZE;
 use p6_draft as form;
 use p6_zeros as zeros;
 
 // The first n cells.
-fn put_cells_on(b: &[u8], n: usize, draft: &mut [u8])
-    requires { (length b.now ≡ size) × (n ≤ limit) × (draft_start n ≤ length draft.old) }
+fn put_cells_on(b: &[u8; SIZE], n: usize, draft: &mut [u8])
+    requires { (n ≤ limit) × (draft_start n ≤ length draft.old) }
     ensures { draft.new ≡ put_at draft_head (draft_cells (first_cells (composition_of b.now) n))
         draft.old }
 {
-    let mut i: usize = 0;
-    while i < n {
-        let x = bytes::cell(b, i);
-        form::put_cell(draft, i, x);
-        i += 1;
+    for i in 0..n {
+        form::put_cell(draft, i, bytes::cell(b, i));
     }
 }
 
@@ -32,39 +30,33 @@ pub fn write_on(state: &[u8], draft: &mut [u8]) -> Result<usize, Refusal>
     ensures value { result ≡ answer (bytes_outcome state.now) (length draft.old) }
     ensures draft_after { draft.new ≡ output (bytes_outcome state.now) draft.old }
 {
-    if !bytes::bytes_ok(state) {
+    let Some(state) = bytes::checked(state) else {
         return Err(Refusal::Unsound);
-    }
-    let method = state[0];
-    let mode = state[1];
-    let capitals = state[3];
+    };
     let n = bytes::cell_count(state);
     let m = form::FRAME + form::CELL * n;
     if draft.len() < m {
         return Err(Refusal::Short);
     }
-    form::put_head(draft, method, mode, n);
+    form::put_head(draft, state[0], state[1], n);
     put_cells_on(state, n, draft);
-    form::put_tail(draft, capitals, n);
+    form::put_tail(draft, state[3], n);
     Ok(m)
 }
 
 // The composition of a draft, over whatever stands in `state`.
-fn fill_on(draft: &[u8], state: &mut [u8])
-    requires { (is_draft draft.now ≡ true) × (length state.old ≡ size) }
+fn fill_on(draft: &[u8], state: &mut [u8; SIZE])
+    requires { is_draft draft.now ≡ true }
     ensures { state.new ≡ bytes_of (draft_composition draft.now) }
 {
     let n = form::cell_count(draft);
-    zeros::put_zeros(state, 0, bytes::SIZE);
+    zeros::put_zeros(state, 0, SIZE);
     state[0] = draft[3];
     state[1] = draft[7];
     state[2] = n as u8;
     state[3] = draft[form::HEAD + form::CELL * n + 3];
-    let mut i: usize = 0;
-    while i < n {
-        let x = form::cell(draft, i);
-        bytes::store(state, i, x);
-        i += 1;
+    for i in 0..n {
+        bytes::store(state, i, form::cell(draft, i));
     }
 }
 
@@ -74,9 +66,9 @@ pub fn read_on(draft: &[u8], state: &mut [u8]) -> Result<usize, Refusal>
     ensures { (u : Reading) × Means draft.now u × (result ≡ read_on u state.old)
         × (state.new ≡ read_bytes u state.old) }
 {
-    if state.len() != bytes::SIZE {
+    let Some(state) = state.as_mut_array() else {
         return Err(Refusal::Unsound);
-    }
+    };
     if !form::is_draft(draft) {
         return Err(Refusal::NoDraft);
     }

@@ -1,2 +1,3 @@
 pub mod Zeros
+pub mod Ranges
 pub mod Only

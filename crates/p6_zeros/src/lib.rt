@@ -9,6 +9,7 @@ ghost use Rattle.p6_zeros.specs.Mirror.{long_at, zero_in, zero_from};
 const BLOCK: usize = 128;
 
 // Eight bytes as one number, low byte first: LLVM makes one load of it.
+#[tactic(auto, unfolding(crate::specs::Mirror::long_at))]
 pub fn long_at(b: &[u8], at: usize) -> u64
     requires { at + 8 ≤ length b.now }
     ensures { result ≡ long_at b.now at }
@@ -37,6 +38,7 @@ fn block_zero(b: &[u8], at: usize) -> bool
     seen == 0
 }
 
+#[tactic(auto, using(crate::proofs::Zeros::run_on, crate::proofs::Zeros::one_byte), unfolding(crate::specs::Mirror::zero_in, crate::specs::Mirror::zero_from))]
 fn few_zero(b: &[u8]) -> bool
     ensures { result ≡ zero_from b.now 0 }
 {

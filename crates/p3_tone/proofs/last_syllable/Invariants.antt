@@ -1,7 +1,4 @@
-use Prim.Native.Nat.{◌+◌, ◌≤◌}
-use mathlib.Core.Path.{◌≡◌}
-use mathlib.Core.Bool.{false}
-use lib.ListN.{length, drop}
+use Rattle.std.proofs.Common.{◌≡◌, ◌+◌, ◌≤◌, false, length, drop}
 use Rattle.p3_cells.specs.Mirror.{row_cells}
 use Rattle.p3_tone.specs.TonePlace.{any_separates, vowel_places}
 use Rattle.p3_tone.specs.Mirror.{seen_of}
@@ -9,8 +6,5 @@ use Rattle.p3_tone.proofs.last_syllable.Given as goal
 
 abbrev pub invariant-loop-i : goal.invariant-loop-i
 invariant-loop-i l =
-    (l.i ≤ length l.row) × (l.v.count + l.i ≤ length l.row) × (any_separates (drop l.i (row_cells l.row)) ≡ false)
-    × (l.v ≡ seen_of (vowel_places l.i (drop l.i (row_cells l.row))))
-
-abbrev pub decreases-loop-i : goal.decreases-loop-i
-decreases-loop-i l = l.i
+    (l.vowels.count + l.i ≤ length l.row) × (any_separates (drop l.i (row_cells l.row)) ≡ false)
+    × (l.vowels ≡ seen_of (vowel_places l.i (drop l.i (row_cells l.row))))

@@ -1,24 +1,14 @@
-use borrow.Author.Rules.{rules}
-use Rattle.p0_choice.proofs.Tests.{tested}
-use Rattle.p6_bytes.proofs.Tests.{fit_is}
+use Rattle.std.proofs.Common.{rules, refl, arith, ◌∙◌}
+use Rattle.std.proofs.lemmas.Iterator.{YieldsList-from_range}
+use Rattle.std.proofs.lemmas.Iterator.Search.{all_from_yields_List}
+use borrow.Author.Tests.{tests}
+use Rattle.p6_zeros.proofs.Ranges.{list_all-each}
+use Rattle.p6_bytes.specs.Mirror.{cell_fits, cells_fit}
 use Rattle.p6_bytes.proofs.cells_fit.Goals as goal
 
-ruleset answers = (rules, tested, fit_is)
-
-pub loop-i-init : goal.loop-i-init
-loop-i-init c = search answers
-
-pub cell_fits-requires : goal.cell_fits-requires
-cell_fits-requires c = search answers
-
-pub returns-then-not-cell_fits : goal.returns-then-not-cell_fits
-returns-then-not-cell_fits c = search answers
-
-pub loop-i-smaller : goal.loop-i-smaller
-loop-i-smaller c = search answers
-
-pub loop-i-preserved : goal.loop-i-preserved
-loop-i-preserved c = search answers
-
 pub returns : goal.returns
-returns c = search answers
+unfolding cells_fit
+returns c =
+    all_from_yields_List (cell_fits c.args.b.now) _ _ c.all.result c.all.ensures.ran (YieldsList-from_range 0 _ c.args.n refl (omega arith))
+    (λ x b q k. search (rules, tests))
+    ∙ list_all-each (cell_fits c.args.b.now) c.args.n 0

@@ -8,17 +8,8 @@ ruleset answers = (rules, fill_start, fill_on, fill_done, refl)
 pub loop-i-init : goal.loop-i-init
 loop-i-init c = search answers
 
-pub cell-x-requires : goal.cell-x-requires
-cell-x-requires c = search answers
-
-pub loop-i-smaller : goal.loop-i-smaller
-loop-i-smaller c = search answers
-
 pub loop-i-preserved : goal.loop-i-preserved
 loop-i-preserved c = search answers
-
-pub shape_of-row : goal.shape_of-row
-shape_of-row c = search answers
 
 pub returns : goal.returns
 returns c = search answers

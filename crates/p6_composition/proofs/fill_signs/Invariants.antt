@@ -1,4 +1,4 @@
-use Prim.Native.Nat.{◌≤◌, ◌-◌}
+use Prim.Native.Nat.{◌≤◌}
 use mathlib.Core.Path.{◌≡◌}
 use lib.ListN.{length}
 use Rattle.p3_undo.proofs.Signs.{Signed}
@@ -9,6 +9,3 @@ use Rattle.p6_composition.proofs.fill_signs.Given as goal
 abbrev pub invariant-loop-i : goal.invariant-loop-i
 invariant-loop-i l =
     (l.i ≤ l.n) × (length l.row ≡ length l.initial.row) × (l.n ≤ length l.row) × (l.n ≤ places (composition_of l.b)) × Signed (composition_of l.b) l.row l.i
-
-abbrev pub decreases-loop-i : goal.decreases-loop-i
-decreases-loop-i l = l.n - l.i

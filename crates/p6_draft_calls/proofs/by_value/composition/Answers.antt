@@ -11,17 +11,11 @@ cell_count-n-requires c = search answers
 pub settings-z-requires : goal.settings-z-requires
 settings-z-requires c = search answers
 
-pub empty-c-requires : goal.empty-c-requires
-empty-c-requires c = search answers
-
 pub loop-i-init : goal.loop-i-init
 loop-i-init c = search answers
 
-pub cell-x-requires : goal.cell-x-requires
-cell-x-requires c = search answers
-
-pub loop-i-smaller : goal.loop-i-smaller
-loop-i-smaller c = search answers
+pub cell-requires : goal.cell-requires
+cell-requires c = search answers
 
 pub loop-i-preserved : goal.loop-i-preserved
 loop-i-preserved c = search answers

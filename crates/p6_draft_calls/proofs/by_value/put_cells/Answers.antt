@@ -8,17 +8,8 @@ ruleset answers = (rules, length_under, cells_start, cells_on, used_done)
 pub loop-i-init : goal.loop-i-init
 loop-i-init c = search answers
 
-pub put_cell-requires : goal.put_cell-requires
-put_cell-requires c = search answers
-
-pub loop-i-smaller : goal.loop-i-smaller
-loop-i-smaller c = search answers
-
 pub loop-i-preserved : goal.loop-i-preserved
 loop-i-preserved c = search answers
-
-pub shape_of-draft : goal.shape_of-draft
-shape_of-draft c = search answers
 
 pub returns : goal.returns
 returns c = search answers

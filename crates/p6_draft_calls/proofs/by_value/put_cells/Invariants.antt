@@ -1,4 +1,3 @@
-use Prim.Native.Nat.{◌≤◌, ◌-◌}
 use mathlib.Core.Path.{◌≡◌}
 use lib.ListN.{length}
 use Rattle.p3_cells.specs.Mirror.{first_cells}
@@ -7,7 +6,4 @@ use Rattle.p6_draft.specs.Mirror.{draft_head, put_at}
 use Rattle.p6_draft_calls.proofs.by_value.put_cells.Given as goal
 
 abbrev pub invariant-loop-i : goal.invariant-loop-i
-invariant-loop-i l = (l.i ≤ l.n) × (length l.draft ≡ length l.initial.draft) × (l.draft ≡ put_at draft_head (draft_cells (first_cells l.c l.i)) l.initial.draft)
-
-abbrev pub decreases-loop-i : goal.decreases-loop-i
-decreases-loop-i l = l.n - l.i
+invariant-loop-i l = (length l.draft ≡ length l.initial.draft) × (l.draft ≡ put_at draft_head (draft_cells (first_cells l.c l.i)) l.initial.draft)

@@ -1,6 +1,4 @@
 use borrow.Author.Rules.{rules}
-use native.Mathlib.Omega.{arith}
-use lib.ListN.{length-set}
 use Rattle.p6_draft.proofs.Tests.{draft_frame_lem, draft_byte, draft_few, draft_room_lem, cell_below, cell_room}
 use Rattle.p6_draft_calls.proofs.Filling.{filling}
 use Rattle.p6_draft_calls.proofs.on_bytes.fill_on.Goals as goal
@@ -9,39 +7,6 @@ ruleset answers = (rules, draft_frame_lem, draft_byte, draft_few, draft_room_lem
 
 pub cell_count-n-requires : goal.cell_count-n-requires
 cell_count-n-requires c = search answers
-
-pub put_zeros-requires : goal.put_zeros-requires
-put_zeros-requires c = search answers
-
-pub bounds-state-1 : goal.bounds-state-1
-bounds-state-1 c = simp length-set (omega arith)
-
-pub bounds-state-2 : goal.bounds-state-2
-bounds-state-2 c = simp length-set (omega arith)
-
-pub bounds-state-3 : goal.bounds-state-3
-bounds-state-3 c = simp length-set (omega arith)
-
-pub loop-i-init : goal.loop-i-init
-loop-i-init c = (search answers, search answers, simp length-set (search answers), search answers)
-
-pub cell-x-requires : goal.cell-x-requires
-cell-x-requires c = search answers
-
-pub store-requires : goal.store-requires
-store-requires c = search answers
-
-pub loop-i-smaller : goal.loop-i-smaller
-loop-i-smaller c = search answers
-
-pub loop-i-preserved : goal.loop-i-preserved
-loop-i-preserved c = (search answers, search answers, search answers, search answers)
-
-pub shape_of-state : goal.shape_of-state
-shape_of-state c = search answers
-
-pub returns : goal.returns
-returns c = search answers
 
 pub bounds-draft-3 : goal.bounds-draft-3
 bounds-draft-3 c = search answers
@@ -63,3 +28,15 @@ overflow_add-state-2 c = search answers
 
 pub bounds-draft-n : goal.bounds-draft-n
 bounds-draft-n c = search answers
+
+pub loop-i-init : goal.loop-i-init
+loop-i-init c = search answers
+
+pub cell-requires : goal.cell-requires
+cell-requires c = search answers
+
+pub loop-i-preserved : goal.loop-i-preserved
+loop-i-preserved c = search answers
+
+pub returns : goal.returns
+returns c = search answers

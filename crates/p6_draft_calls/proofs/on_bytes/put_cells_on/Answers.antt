@@ -8,20 +8,5 @@ ruleset answers = (rules, cells_all, cells_start, cells_on, cells_done)
 pub loop-i-init : goal.loop-i-init
 loop-i-init c = search answers
 
-pub cell-x-requires : goal.cell-x-requires
-cell-x-requires c = search answers
-
-pub put_cell-requires : goal.put_cell-requires
-put_cell-requires c = search answers
-
-pub loop-i-smaller : goal.loop-i-smaller
-loop-i-smaller c = search answers
-
 pub loop-i-preserved : goal.loop-i-preserved
 loop-i-preserved c = search answers
-
-pub shape_of-draft : goal.shape_of-draft
-shape_of-draft c = search answers
-
-pub returns : goal.returns
-returns c = search answers

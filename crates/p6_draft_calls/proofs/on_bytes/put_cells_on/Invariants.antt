@@ -1,4 +1,4 @@
-use Prim.Native.Nat.{◌≤◌, ◌-◌}
+use Prim.Native.Nat.{◌≤◌}
 use mathlib.Core.Path.{◌≡◌}
 use lib.ListN.{length}
 use Rattle.p3_cells.specs.Mirror.{first_cells}
@@ -10,6 +10,3 @@ use Rattle.p6_draft_calls.proofs.on_bytes.put_cells_on.Given as goal
 abbrev pub invariant-loop-i : goal.invariant-loop-i
 invariant-loop-i l =
     (l.i ≤ l.n) × (length l.draft ≡ length l.initial.draft) × (l.draft ≡ put_at draft_head (draft_cells (first_cells (composition_of l.b) l.i)) l.initial.draft)
-
-abbrev pub decreases-loop-i : goal.decreases-loop-i
-decreases-loop-i l = l.n - l.i
