@@ -1,9 +1,9 @@
 -- A line read as letters: as many places as bytes may be read always suffice, so that only what the bytes are refuses it.
 use Rattle.std.specs.Prelude.{Err, Ok, Result}
-use Prim.Native.Nat.{ℕ, ◌+◌, ◌≤◌}
+use Prim.Native.Nat.{ℕ, ◌≤◌}
 use mathlib.Core.Path.{◌≡◌, refl, sym, ap, ◌∙◌}
 use mathlib.Core.Bool.{Bool, true, false}
-use mathlib.Core.List.{List, [], ◌++◌}
+use mathlib.Core.List.{List, []}
 use native.Mathlib.Omega.{arith}
 use lib.Dec.{ltb}
 use lib.ListN.{length, take, drop}
@@ -19,8 +19,6 @@ use Rattle.p5_utf8.specs.Rfc3629.{encode_all}
 use Rattle.p5_utf8.proofs.Encode.{many_bytes}
 use Rattle.p5_utf8_text.specs.Read.{letters, reading}
 use Rattle.p5_utf8_text.proofs.Exact.{letters_exactly}
-use Rattle.p7_line.specs.declared.Begun.{Begun}
-use Rattle.p7_line.specs.declared.Begun.TheVariants.{Err as Not}
 use Rattle.p2_input_method.specs.declared.InputMethod.{InputMethod}
 use Rattle.p3_cells.specs.Settings.{at_first}
 use Rattle.p7_line.specs.Line.{keys_made, made_line, refused_line, keys_line, line_out}
@@ -40,18 +38,29 @@ read_small s xs e = go (ltb byte_limit (length s)) refl e
         let k : length (encode_all xs) ≤ byte_limit = rw h.0 l in
         (omega (arith, many_bytes xs), h.1)
 
-module _ (s o : List ℕ) (g : Result ℕ Refusal) (e : g ≡ answer (reading s) (length o)) (l : length o ≡ byte_limit) where
-  pub read_refused : (r : Refusal) → g ≡ Err r → reading s ≡ refuses r
+module _ (s : List ℕ) (m : ℕ) (g : Result ℕ Refusal) (e : g ≡ answer (reading s) m) (l : m ≡ byte_limit) (r : Refusal) (q : g ≡ Err r) where
+  read_refused : reading s ≡ refuses r
   unfolding answer
-  read_refused r q = go (reading s) refl (sym q ∙ e)
+  read_refused = go (reading s) refl (sym q ∙ e)
     where
-      go : (u : Outcome) → reading s ≡ u → Err r ≡ answer u (length o) → reading s ≡ refuses r
+      go : (u : Outcome) → reading s ≡ u → Err r ≡ answer u m → reading s ≡ refuses r
       go (writes xs) p h =
           let k = (read_small s xs p).0 in
-          let d : Err r ≡ Ok (length xs) = h ∙ rw (le-ltb (length o) (length xs) (omega arith)) refl in
+          let d : Err r ≡ Ok (length xs) = h ∙ rw (le-ltb m (length xs) (omega arith)) refl in
           let z : ◌≡◌ {A = ℕ} 0 1 = cc in absurd (omega arith)
       go (refuses w) p h = let k : w ≡ r = cc in p ∙ ap refuses k
 
+  -- the method line
+  pub method_refused : begun_by s ≡ Err r
+  unfolding begun_by method_named
+  method_refused = rw read_refused refl
+
+  -- a line of keys
+  pub keys_refused : (i : InputMethod) → line_out i s ≡ refused_line r
+  unfolding line_out keys_line
+  keys_refused i = rw read_refused refl
+
+module _ (s o : List ℕ) (g : Result ℕ Refusal) (e : g ≡ answer (reading s) (length o)) (l : length o ≡ byte_limit) where
   read_whole : (n : ℕ) (out : List ℕ) → g ≡ Ok n → out ≡ output (reading s) o → (reading s ≡ writes (take n out)) × (n ≤ byte_limit)
   unfolding answer content output
   read_whole n out q f = go (reading s) refl (sym q ∙ e) f
@@ -70,42 +79,15 @@ module _ (s o : List ℕ) (g : Result ℕ Refusal) (e : g ≡ answer (reading s)
   pub read_done : (n : ℕ) (out : List ℕ) → g ≡ Ok n → out ≡ output (reading s) o → reading s ≡ writes (take n out)
   read_done n out q f = (read_whole n out q f).0
 
-  -- the method line
-  pub method_refused : (r : Refusal) → g ≡ Err r → Not r ≡ begun_by s
-  unfolding begun_by method_named
-  method_refused r q = rw (read_refused r q) refl
+  module _ (n : ℕ) (out xs : List ℕ) (q : g ≡ Ok n) (f : out ≡ output (reading s) o) (k : xs ≡ take n out) where
+    pub method_read : begun_by s ≡ method_named (writes xs)
+    unfolding begun_by
+    method_read = rw (read_done n out q f, k) refl
 
-  pub method_named_lem : (n : ℕ) (out name : List ℕ) (b : Begun) → g ≡ Ok n → out ≡ output (reading s) o → name ≡ take n out
-      → b ≡ method_named (writes name)
-      → b ≡ begun_by s
-  unfolding begun_by
-  method_named_lem n out name b q f k h = rw (read_done n out q f, ← k) h
-
-  -- a line of keys: refused as it is read ..
-  module _ (m : InputMethod) (r : Refusal) (q : g ≡ Err r) where
-    keys_refused : line_out m s ≡ refused_line r
-    unfolding line_out keys_line
-    keys_refused = rw (read_refused r q) refl
-
-    pub refused_line_end : (e at : ℕ) → e ≡ at + length (refused_line r) → e ≡ at + length (line_out m s)
-    refused_line_end e at h = rw keys_refused h
-
-    pub refused_line_out : (e at : ℕ) (o1 o2 : List ℕ) → o2 ≡ take at o1 ++ (refused_line r ++ drop e o1)
-        → o2 ≡ take at o1 ++ (line_out m s ++ drop e o1)
-    refused_line_out e at o1 o2 h = rw keys_refused h
-
-  -- .. or typed
-  module _ (m : InputMethod) (n : ℕ) (out keys : List ℕ) (q : g ≡ Ok n) (f : out ≡ output (reading s) o) (k : keys ≡ take n out) where
-    pub keys_letters : all_letters keys ≡ true
+    -- a line of keys
+    pub keys_letters : all_letters xs ≡ true
     keys_letters = rw k (read_small s (take n out) (read_done n out q f)).1
 
-    keys_typed : line_out m s ≡ made_line (at_first m) (keys_made (at_first m) [] keys)
+    pub keys_read : (m : InputMethod) → line_out m s ≡ made_line (at_first m) (keys_made (at_first m) [] xs)
     unfolding line_out keys_line
-    keys_typed = rw (read_done n out q f, k) refl
-
-    pub typed_line_end : (e at : ℕ) → e ≡ at + length (made_line (at_first m) (keys_made (at_first m) [] keys)) → e ≡ at + length (line_out m s)
-    typed_line_end e at h = rw keys_typed h
-
-    pub typed_line_out : (e at : ℕ) (o1 o2 : List ℕ) → o2 ≡ take at o1 ++ (made_line (at_first m) (keys_made (at_first m) [] keys) ++ drop e o1)
-        → o2 ≡ take at o1 ++ (line_out m s ++ drop e o1)
-    typed_line_out e at o1 o2 h = rw keys_typed h
+    keys_read m = rw (read_done n out q f, k) refl

@@ -1,5 +1,5 @@
 -- Document 01, "Examples to hold it to": what the program `wordline` prints for "one line of keys per fresh composition".
-use Rattle.std.specs.Prelude.{ℕ, ◌+◌, ◌/◌, ◌%◌, List, [], ◌∷◌, ◌++◌, ltb, length, get_or}
+use Rattle.std.specs.Prelude.{ℕ, ◌+◌, ◌/◌, ◌%◌, List, [], ◌∷◌, ◌++◌, ltb, length, get_or, Bool, true, false, Result, Ok, Err}
 use Rattle.p0_choice.specs.Choice.{pick}
 use Rattle.p0_choice.specs.Text.{word, line_end}
 use Rattle.p0_refusals.specs.Limits.{byte_limit}
@@ -14,8 +14,6 @@ use Rattle.p3_cells.specs.declared.Settings.{Settings}
 use Rattle.p3_cells.specs.Settings.{at_first}
 use Rattle.p3_step.specs.Key.{key_cells}
 use Rattle.p4_spelling.specs.Answers.{verdict_answer}
-use Rattle.p4_spelling.specs.declared.Verdict.{Verdict}
-use Rattle.p4_spelling.specs.declared.Verdict.TheVariants.{Yes, No, Refused}
 use Rattle.p0_refusals.specs.Answers.{Outcome, writes, refuses}
 use Rattle.p5_utf8.specs.Rfc3629.{encode_all}
 use Rattle.p5_utf8_text.specs.Read.{reading}
@@ -39,10 +37,10 @@ abbrev pub tab : ℕ
 tab = 0x09
 
 -- "Per line it prints the text, a tab, and yes or no for the text's verdict; a refused line prints `refused` and the number"
-unfoldable pub judged_line : List ℕ → Verdict → List ℕ
-judged_line text Yes = encode_all text ++ (tab ∷ (word "yes" ++ (line_end ∷ [])))
-judged_line text No = encode_all text ++ (tab ∷ (word "no" ++ (line_end ∷ [])))
-judged_line text (Refused r) = refused_line r
+unfoldable pub judged_line : List ℕ → Result Bool Refusal → List ℕ
+judged_line text (Ok true) = encode_all text ++ (tab ∷ (word "yes" ++ (line_end ∷ [])))
+judged_line text (Ok false) = encode_all text ++ (tab ∷ (word "no" ++ (line_end ∷ [])))
+judged_line text (Err r) = refused_line r
 
 -- request 2026-05: "The word limit stays at 64, so the verdict of a longer text is refusal 6."
 unfoldable pub text_line : List ℕ → List ℕ

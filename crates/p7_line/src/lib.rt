@@ -1,15 +1,12 @@
 // What `wordline` does with a line: the method line names a method, any other is keys for a fresh composition.
 #![tactic(auto)]
 
-ghost use Rattle.std.specs.Prelude.{◌≡◌, ◌++◌, ◌+◌, ◌≤◌, length, take, drop, true, []};
+ghost use Rattle.std.specs.Prelude.{◌≡◌, ◌≤◌, ◌<◌, length, take, true, [], MatchResult};
 ghost use Rattle.p1_letters.specs.Alphabet.{all_letters};
-ghost use Rattle.p0_refusals.specs.Limits.{letter_limit};
-ghost use Rattle.p5_utf8_text.specs.Write.{write_room};
-ghost use Rattle.p5_utf8.specs.Rfc3629.{encode_all};
-ghost use Rattle.p4_rows.specs.Lookup.{same_word};
-ghost use Rattle.p0_refusals.specs.Answers.{writes};
+ghost use Rattle.p0_refusals.specs.Answers.{writes, onto};
+ghost use Rattle.p3_cells.specs.Cells.{limit};
 ghost use Rattle.p3_cells.specs.Settings.{at_first};
-ghost use Rattle.p7_line.specs.Line.{refused_line, text_line, keys_made, made_line, line_out};
+ghost use Rattle.p7_line.specs.Line.{digit, refused_line, text_line, keys_made, made_line, line_out};
 ghost use Rattle.p7_line.specs.Mirror.{line_room};
 ghost use Rattle.p7_line.specs.Method.{method_named, begun_by};
 
@@ -27,142 +24,109 @@ const TEXT: usize = p5_utf8_text::writer::WIDTH * LETTERS;
 // The most that a line prints; `line_room` says the same.
 pub const ROOM: usize = TEXT + 5;
 
-// What the first line says.
-#[derive(Clone, Copy)]
-pub enum Begun {
-    With(InputMethod),
-    Refused(Refusal),
-}
+const TELEX: &[u32] = &['t' as u32, 'e' as u32, 'l' as u32, 'e' as u32, 'x' as u32];
 
-pub fn put_refused(refusal: Refusal, out: &mut [u8], at: usize) -> usize
-    requires { at + 11 ≤ length out.old }
-    ensures { (result ≡ at + length (refused_line refusal)) × (result ≤ at + line_room)
-        × (out.new ≡ take at out.old ++ (refused_line refusal ++ drop result out.old)) }
+const VNI: &[u32] = &['v' as u32, 'n' as u32, 'i' as u32];
+
+const DIGITS: &[u8; 10] = b"0123456789";
+
+#[tactic(auto, unfolding(crate::specs::Line::digit, p0_choice::specs::Text::word))]
+fn digit(n: u32) -> u8
+    requires { n < 10 }
+    ensures { result ≡ digit n }
 {
-    match refusal {
-        Refusal::Foreign => slices::put(b"refused 1\n", out, at),
-        Refusal::Full => slices::put(b"refused 2\n", out, at),
-        Refusal::Short => slices::put(b"refused 3\n", out, at),
-        Refusal::Empty => slices::put(b"refused 4\n", out, at),
-        Refusal::NoUndo => slices::put(b"refused 5\n", out, at),
-        Refusal::Long => slices::put(b"refused 6\n", out, at),
-        Refusal::NoWord => slices::put(b"refused 7\n", out, at),
-        Refusal::Malformed => slices::put(b"refused 8\n", out, at),
-        Refusal::NoMethod => slices::put(b"refused 9\n", out, at),
-        Refusal::Unsound => slices::put(b"refused 10\n", out, at),
-        Refusal::NoDraft => slices::put(b"refused 11\n", out, at),
-    }
+    DIGITS[n as usize]
 }
 
-fn same(a: &[u32], b: &[u32]) -> bool
-    ensures { result ≡ same_word a.now b.now }
+// Each of these writes from the start of what it is lent, and gives how many bytes it wrote.
+
+pub fn put_refused(refusal: Refusal, out: &mut [u8]) -> usize
+    requires { 11 ≤ length out.old }
+    ensures { (result ≡ length (refused_line refusal)) × (result ≤ line_room) × (out.new ≡ onto (refused_line refusal) out.old) }
 {
-    if a.len() != b.len() {
-        return false;
+    let number = u32::from(refusal);
+    let next = slices::put(b"refused ", out, 0);
+    if number < 10 {
+        return slices::put(&[digit(number), b'\n'], out, next);
     }
-    let mut i: usize = 0;
-    while i < a.len() {
-        if a[i] != b[i] {
-            return false;
-        }
-        i += 1;
-    }
-    true
+    slices::put(&[digit(number / 10), digit(number % 10), b'\n'], out, next)
 }
 
-fn named(name: &[u32]) -> Begun
+#[tactic(auto, using(crate::proofs::SameWord::namings), unfolding(crate::specs::Method::method_named, p0_choice::specs::Text::word))]
+fn named(name: &[u32]) -> Result<InputMethod, Refusal>
     ensures { result ≡ method_named (writes name.now) }
 {
-    let telex = [116, 101, 108, 101, 120];
-    if same(name, &telex) {
-        return Begun::With(InputMethod::Telex);
+    if name == TELEX {
+        return Ok(InputMethod::Telex);
     }
-    let vni = [118, 110, 105];
-    if same(name, &vni) {
-        return Begun::With(InputMethod::Vni);
+    if name == VNI {
+        return Ok(InputMethod::Vni);
     }
-    Begun::Refused(Refusal::NoMethod)
+    Err(Refusal::NoMethod)
 }
 
 // The method line.
-pub fn method_line(line: &[u8]) -> Begun
+pub fn method_line(line: &[u8]) -> Result<InputMethod, Refusal>
     ensures { result ≡ begun_by line.now }
 {
-    let mut letters = [0u32; BYTES];
-    let given = p5_utf8_text::reader::read(line, &mut letters);
-    match given {
-        Err(refusal) => Begun::Refused(refusal),
-        Ok(n) => named(slices::first(&letters, n)),
-    }
-}
-
-// A text in UTF-8.
-fn put_text(text: &[u32], out: &mut [u8], at: usize) -> usize
-    requires { (length text.now ≤ letter_limit) × (all_letters text.now ≡ true) × (at + line_room ≤ length out.old) }
-    ensures { (result ≡ at + length (encode_all text.now)) × (result ≤ at + write_room)
-        × (out.new ≡ take at out.old ++ (encode_all text.now ++ drop result out.old)) }
-{
-    let mut bytes = [0u8; TEXT];
-    let given = p5_utf8_text::writer::write(text, &mut bytes);
-    match given {
-        Err(_) => at,
-        Ok(n) => slices::put(slices::first_bytes(&bytes, n), out, at),
-    }
+    let mut letters = [0; BYTES];
+    let n = p5_utf8_text::reader::read(line, &mut letters)?;
+    named(slices::first(&letters, n))
 }
 
 // A composed text, a tab, and its verdict; a longer one has none, and is refused.
-fn text_line(text: &[u32], out: &mut [u8], at: usize) -> usize
-    requires { (all_letters text.now ≡ true) × (at + line_room ≤ length out.old) }
-    ensures { (result ≡ at + length (text_line text.now)) × (result ≤ at + line_room)
-        × (out.new ≡ take at out.old ++ (text_line text.now ++ drop result out.old)) }
+fn text_line(text: &[u32], out: &mut [u8]) -> usize
+    requires { (all_letters text.now ≡ true) × (line_room ≤ length out.old) }
+    ensures { (result ≡ length (text_line text.now)) × (result ≤ line_room) × (out.new ≡ onto (text_line text.now) out.old) }
 {
     if LETTERS < text.len() {
-        return put_refused(Refusal::Long, out, at);
+        return put_refused(Refusal::Long, out);
     }
-    let next = put_text(text, out, at);
+    let next = p5_utf8_text::writer::write(text, out).unwrap();
     if p4_spelling::accepts(text) {
         return slices::put(b"\tyes\n", out, next);
     }
     slices::put(b"\tno\n", out, next)
 }
 
-// Keys on a fresh composition: its text with the verdict, or the refusal of the first append that finds all cells used.
-fn keys_line(m: InputMethod, keys: &[u32], out: &mut [u8], at: usize) -> usize
-    requires { (all_letters keys.now ≡ true) × (at + line_room ≤ length out.old) }
-    ensures { (result ≡ at + length (made_line (at_first m) (keys_made (at_first m) [] keys.now))) × (result ≤ at + line_room)
-        × (out.new ≡ take at out.old
-        ++ (made_line (at_first m) (keys_made (at_first m) [] keys.now) ++ drop result out.old)) }
+// Keys on a fresh composition: how long its text is, or the refusal of the first append that finds all cells used.
+fn keys_typed(m: InputMethod, keys: &[u32], text: &mut [u32]) -> Result<usize, Refusal>
+    requires { (all_letters keys.now ≡ true) × (length text.old ≡ limit) }
+    ensures { MatchResult result
+        (λ n. (all_letters (take n text.new) ≡ true)
+        × (made_line (at_first m) (keys_made (at_first m) [] keys.now) ≡ text_line (take n text.new)))
+        (λ r. made_line (at_first m) (keys_made (at_first m) [] keys.now) ≡ refused_line r) }
 {
     let mut c = p3_calls::new(m);
-    let mut text = [0u32; LIMIT];
-    let mut count: usize = 0;
-    let mut i: usize = 0;
-    while i < keys.len() {
-        let key = keys[i];
-        i += 1;
-        let k = p3_key::process_sound_key(c, key, &mut text);
-        let given = k.answer;
-        match given {
-            Err(refusal) => return put_refused(refusal, out, at),
-            Ok(n) => {
-                count = n;
-                c = k.comp;
-            }
-        }
+    let mut count = 0;
+    for key in keys {
+        let after = p3_key::process_sound_key(c, *key, text);
+        count = after.answer?;
+        c = after.comp;
     }
-    text_line(slices::first(&text, count), out, at)
+    Ok(count)
 }
 
-// A line of keys, with what it prints and its line feed.
-pub fn line_out(m: InputMethod, line: &[u8], out: &mut [u8], at: usize) -> usize
-    requires { at + line_room ≤ length out.old }
-    ensures { (result ≡ at + length (line_out m line.now)) × (result ≤ at + line_room)
-        × (out.new ≡ take at out.old ++ (line_out m line.now ++ drop result out.old)) }
+// A line of keys: how long the text is, or why the line is refused.
+fn line_typed(m: InputMethod, line: &[u8], text: &mut [u32]) -> Result<usize, Refusal>
+    requires { length text.old ≡ limit }
+    ensures { MatchResult result
+        (λ n. (all_letters (take n text.new) ≡ true) × (line_out m line.now ≡ text_line (take n text.new)))
+        (λ r. line_out m line.now ≡ refused_line r) }
 {
-    let mut letters = [0u32; BYTES];
-    let given = p5_utf8_text::reader::read(line, &mut letters);
-    match given {
-        Err(refusal) => put_refused(refusal, out, at),
-        Ok(n) => keys_line(m, slices::first(&letters, n), out, at),
+    let mut letters = [0; BYTES];
+    let n = p5_utf8_text::reader::read(line, &mut letters)?;
+    keys_typed(m, slices::first(&letters, n), text)
+}
+
+// What a line of keys prints, with its line feed.
+pub fn line_out(m: InputMethod, line: &[u8], out: &mut [u8]) -> usize
+    requires { line_room ≤ length out.old }
+    ensures { (result ≡ length (line_out m line.now)) × (result ≤ line_room) × (out.new ≡ onto (line_out m line.now) out.old) }
+{
+    let mut text = [0; LIMIT];
+    match line_typed(m, line, &mut text) {
+        Ok(n) => text_line(slices::first(&text, n), out),
+        Err(refusal) => put_refused(refusal, out),
     }
 }

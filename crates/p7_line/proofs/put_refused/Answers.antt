@@ -1,52 +1,20 @@
-use borrow.Author.Rules.{rules}
-use mathlib.Core.Path.{refl}
+use native.Mathlib.Omega.{arith}
+use mathlib.Core.Path.{ap}
+use lib.ListN.{length}
 use Rattle.p0_choice.specs.Text.{word}
-use Rattle.p7_line.specs.Line.{digit, digits, refused_line}
-use Rattle.p7_line.proofs.Written.{refused_end, refused_out}
+use Rattle.p7_line.proofs.Written.{both, one_digit, two_digits}
 use Rattle.p7_line.proofs.put_refused.Goals as goal
 
-ruleset answers = (rules, refused_end, refused_out, refl)
+pub returns-then-number-lt10 : goal.returns-then-number-lt10
+unfolding word
+returns-then-number-lt10 c =
+    let e = one_digit _ _ c.from-number.ensures c.if-number-lt10.true _ c.digit.ensures in
+    both _ _ _ (word "refused ") _ _ _ _ c.put-next.ensures.0 c.put.ensures.0 (omega arith) e (omega (arith, ap length e))
+    c.put-next.ensures.1 c.put.ensures.1
 
-pub returns-in-Foreign : goal.returns-in-Foreign
-unfolding digit digits refused_line word
-returns-in-Foreign c = search answers
-
-pub returns-in-Full : goal.returns-in-Full
-unfolding digit digits refused_line word
-returns-in-Full c = search answers
-
-pub returns-in-Short : goal.returns-in-Short
-unfolding digit digits refused_line word
-returns-in-Short c = search answers
-
-pub returns-in-Empty : goal.returns-in-Empty
-unfolding digit digits refused_line word
-returns-in-Empty c = search answers
-
-pub returns-in-NoUndo : goal.returns-in-NoUndo
-unfolding digit digits refused_line word
-returns-in-NoUndo c = search answers
-
-pub returns-in-Long : goal.returns-in-Long
-unfolding digit digits refused_line word
-returns-in-Long c = search answers
-
-pub returns-in-NoWord : goal.returns-in-NoWord
-unfolding digit digits refused_line word
-returns-in-NoWord c = search answers
-
-pub returns-in-Malformed : goal.returns-in-Malformed
-unfolding digit digits refused_line word
-returns-in-Malformed c = search answers
-
-pub returns-in-NoMethod : goal.returns-in-NoMethod
-unfolding digit digits refused_line word
-returns-in-NoMethod c = search answers
-
-pub returns-in-Unsound : goal.returns-in-Unsound
-unfolding digit digits refused_line word
-returns-in-Unsound c = search answers
-
-pub returns-in-NoDraft : goal.returns-in-NoDraft
-unfolding digit digits refused_line word
-returns-in-NoDraft c = search answers
+pub returns : goal.returns
+unfolding word
+returns c =
+    let e = two_digits _ _ c.from-number.ensures c.if-number-lt10.false _ _ c.digit-2.ensures c.digit-3.ensures in
+    both _ _ _ (word "refused ") _ _ _ _ c.put-next.ensures.0 c.put-2.ensures.0 (omega arith) e (omega (arith, ap length e))
+    c.put-next.ensures.1 c.put-2.ensures.1
