@@ -86,7 +86,7 @@ fn word_run(rest: &[u32]) -> usize
 
 impl Report {
     // A word more, which begins at `at`.
-    fn add(&mut self, at: usize, yes: bool)
+    pub fn add(&mut self, at: usize, yes: bool)
         requires { (self.old.words ≤ line_limit) × (self.old.noes ≤ line_limit) }
         ensures { self.new ≡ one_more self.old at yes }
     {
