@@ -75,6 +75,25 @@ def without_contracts(text):
     return "".join(kept) + text[at:]
 
 
+# A slice as an array is Rust's own from 1.93 on, and goes before these; an older one takes these.
+ARRAYS = """
+trait Arrays<T> {
+    fn as_array<const N: usize>(&self) -> Option<&[T; N]>;
+    fn as_mut_array<const N: usize>(&mut self) -> Option<&mut [T; N]>;
+}
+impl<T> Arrays<T> for [T] {
+    fn as_array<const N: usize>(&self) -> Option<&[T; N]> { self.try_into().ok() }
+    fn as_mut_array<const N: usize>(&mut self) -> Option<&mut [T; N]> { self.try_into().ok() }
+}
+"""
+
+
+def as_rust(text):
+    """Without contracts, for each Rust that tools/need takes."""
+    code = without_contracts(text)
+    return code + ARRAYS if re.search(r"\.as_(?:mut_)?array\b", code) else code
+
+
 def copy(crate, folder, change=None):
     """The crate's source as Rust in `folder`; `change` maps a file's name and text to its text."""
     source = ROOT / "crates" / crate / "src"
@@ -85,7 +104,7 @@ def copy(crate, folder, change=None):
             text = change("src/" + str(path.relative_to(source)), text)
         target = (folder / crate / path.relative_to(source)).with_suffix(".rs")
         target.parent.mkdir(parents=True, exist_ok=True)
-        target.write_text(without_contracts(text), encoding="utf-8")
+        target.write_text(as_rust(text), encoding="utf-8")
 
 
 def build(order, rebuilt, folder, port, library):

@@ -10,9 +10,9 @@ use Rattle.p4_note_line.specs.declared.Report.{Report}
 use Rattle.p4_note_line.specs.declared.Taken.{Taken}
 use Rattle.p4_note_line.specs.declared.Taken.TheVariants.{Gap, Letter}
 use Rattle.p4_note_line.specs.Line.{line_limit, taking, whether, fault_from, line_fault, line_report, unless_fault, line_answer}
-use Rattle.p4_note_line.specs.Mirror.{tallied_from, untallied}
+use Rattle.p4_note_line.specs.Mirror.{CanCount, counted_from}
 use Rattle.p4_note_line.proofs.Taking.{tells}
-use Rattle.p4_note_line.proofs.Tally.{tally_tells}
+use Rattle.p4_note_line.proofs.Tally.{count_tells}
 
 -- a line with no refusal has its length within the limit
 module _ (at run x n m : ℕ) where
@@ -44,9 +44,13 @@ module _ (line : List ℕ) (f : Result ℕ Refusal) where
     unfolding line_fault
     fault_short = let q = fault_length 0 0 n line (omega arith) (sym e ∙ h) in omega (arith, q.0, q.1)
 
+    pub line_counts : (c : Report) → c.words ≡ 0 → c.noes ≡ 0 → CanCount 0 line c
+    line_counts c w o = record { short = omega (arith, fault_short); few = omega arith; fewer = omega arith }
+
     -- with none, what the readers have counted
-    pub answer_counted : (t : ℕ) (r : Report) → t ≡ tallied_from 0 0 line → r ≡ untallied t n → ◌≡◌ {A = Result Report Refusal} (Ok r) (line_answer line)
+    pub answer_counted : (r : Report) → r ≡ counted_from (record { words = 0; noes = 0; first = n }) 0 line
+        → ◌≡◌ {A = Result Report Refusal} (Ok r) (line_answer line)
     unfolding line_answer line_fault
-    answer_counted t r q m =
+    answer_counted r q =
         let is : n ≡ length line = omega (arith, (fault_length 0 0 n line (omega arith) (sym e ∙ h)).0) in
-        ap (Ok) (m ∙ tally_tells line t n q is fault_short) ∙ sym (ap (λ a. unless_fault a (line_report line)) (sym e ∙ h))
+        ap (Ok) (q ∙ count_tells line n is) ∙ sym (ap (λ a. unless_fault a (line_report line)) (sym e ∙ h))

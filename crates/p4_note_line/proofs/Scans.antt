@@ -1,60 +1,57 @@
--- Where a gap and a word end, a letter at a time.
-use Prim.Native.Nat.{ℕ, suc, ◌+◌, ◌≤◌, ◌<◌}
-use mathlib.Core.Path.{◌≡◌, refl, sym, ap, ◌∙◌}
-use mathlib.Core.Bool.{Bool, true, false}
+-- Where a gap and a word end.
+use Prim.Native.Nat.{ℕ, suc, ◌+◌, ◌≤◌}
+use mathlib.Core.Path.{◌≡◌, refl}
+use mathlib.Core.Bool.{Bool, true, false, not, cond}
 use mathlib.Core.List.{List, [], ◌∷◌}
 use native.Mathlib.Omega.{arith}
-use native.Mathlib.Numerals.{add-one}
-use lib.ListN.{length, drop, get_or, drop_of_length-le}
-use lib.Seq.{drop-cons}
+use lib.ListN.{length}
+use Rattle.std.specs.Prelude.{Option, unwrap_or, position}
+use Rattle.std.specs.List.{position_or_len}
+use Rattle.std.proofs.lemmas.List.Recursion.{is_position_or_len}
 use Rattle.p0_choice.specs.Choice.{pick}
 use Rattle.p1_letters.specs.Alphabet.{is_separator}
+use Rattle.p4_spelling.proofs.Scans.{first_or_all}
 use Rattle.p4_note_line.specs.Line.{until_gap}
-use Rattle.p4_note_line.specs.Mirror.{gap_run, gap_end, word_end}
+use Rattle.p4_note_line.specs.Mirror.{gap_run}
 
--- e is where the scan ends that has come to i; v is what is found there
-module _ (line : List ℕ) (e i : ℕ) (v : Bool) where
-  gap_turn : i < length line → gap_run (drop i line) ≡ pick (is_separator (get_or line i 0)) (suc (gap_run (drop (suc i) line))) 0
-  unfolding gap_run
-  gap_turn l = ap gap_run (drop-cons line i 0 l)
+pub gap_le : (xs : List ℕ) → gap_run xs ≤ length xs
+unfolding gap_run
+gap_le [] = omega arith
+gap_le (x ∷ xs) = go (is_separator x) (gap_le xs)
+  where
+    go : (b : Bool) → gap_run xs ≤ length xs → pick b (suc (gap_run xs)) 0 ≤ suc (length xs)
+    go true h = omega arith
+    go false h = omega arith
 
-  pub gap_on : e ≡ gap_end line i → i < length line → v ≡ is_separator (get_or line i 0) → v ≡ true → e ≡ gap_end line (i + 1)
-  unfolding gap_end
-  gap_on q l s t = rw (add-one i) (omega (arith, q, rw (sym s ∙ t) at (gap_turn l)))
+pub word_le : (xs : List ℕ) → length (until_gap xs) ≤ length xs
+unfolding until_gap
+word_le [] = omega arith
+word_le (x ∷ xs) = go (is_separator x) (word_le xs)
+  where
+    go : (b : Bool) → length (until_gap xs) ≤ length xs → length (pick b [] (x ∷ until_gap xs)) ≤ suc (length xs)
+    go true h = omega arith
+    go false h = omega arith
 
-  pub gap_here : e ≡ gap_end line i → i < length line → v ≡ is_separator (get_or line i 0) → v ≡ false → i ≡ e
-  unfolding gap_end
-  gap_here q l s t = omega (arith, q, rw (sym s ∙ t) at (gap_turn l))
+-- each is the first place where a scan ends
+gap_first : (xs : List ℕ) → gap_run xs ≡ position_or_len (λ x. not (is_separator x)) xs
+unfolding gap_run
+gap_first xs = is_position_or_len gap_run (λ x. not (is_separator x)) refl (λ x ys. turned (is_separator x) (gap_run ys)) xs
+  where
+    turned : (b : Bool) (n : ℕ) → pick b (suc n) 0 ≡ cond (not b) 0 (1 + n)
+    turned true n = omega arith
+    turned false n = refl
 
-  word_turn : i < length line
-      → length (until_gap (drop i line)) ≡ pick (is_separator (get_or line i 0)) 0 (suc (length (until_gap (drop (suc i) line))))
-  unfolding until_gap
-  word_turn l = ap (λ xs. length (until_gap xs)) (drop-cons line i 0 l) ∙ turned (is_separator (get_or line i 0))
-    where
-      turned : (b : Bool) → length (pick b [] (get_or line i 0 ∷ until_gap (drop (suc i) line)))
-          ≡ pick b 0 (suc (length (until_gap (drop (suc i) line))))
-      turned true = refl
-      turned false = refl
+word_first : (xs : List ℕ) → length (until_gap xs) ≡ position_or_len is_separator xs
+unfolding until_gap
+word_first xs = is_position_or_len (λ ys. length (until_gap ys)) is_separator refl (λ x ys. turned x (until_gap ys) (is_separator x)) xs
+  where
+    turned : (x : ℕ) (w : List ℕ) (b : Bool) → length (pick b [] (x ∷ w)) ≡ cond b 0 (1 + length w)
+    turned x w true = refl
+    turned x w false = omega arith
 
-  -- the scan of a word begins after its first letter
-  pub word_begun : i < length line → is_separator (get_or line i 0) ≡ false → word_end line i ≡ word_end line (i + 1)
-  unfolding word_end
-  word_begun l s = rw (add-one i) (omega (arith, rw s at (word_turn l)))
+module _ (xs : List ℕ) (r : Option ℕ) where
+  pub gap_is : r ≡ position (λ x. not (is_separator x)) xs → unwrap_or r (length xs) ≡ gap_run xs
+  gap_is e = rw (e, ← gap_first xs) (first_or_all (gap_run xs) (length xs) (gap_le xs))
 
-  pub word_on : e ≡ word_end line i → i < length line → v ≡ is_separator (get_or line i 0) → v ≡ false → e ≡ word_end line (i + 1)
-  unfolding word_end
-  word_on q l s t = rw (add-one i) (omega (arith, q, rw (sym s ∙ t) at (word_turn l)))
-
-  pub word_here : e ≡ word_end line i → i < length line → v ≡ is_separator (get_or line i 0) → v ≡ true → i ≡ e
-  unfolding word_end
-  word_here q l s t = omega (arith, q, rw (sym s ∙ t) at (word_turn l))
-
--- the line has ended
-module _ (line : List ℕ) (e i : ℕ) where
-  pub gap_done : e ≡ gap_end line i → length line ≤ i → i ≡ e
-  unfolding gap_end gap_run
-  gap_done q l = omega (arith, q, ap gap_run (drop_of_length-le line l))
-
-  pub word_done : e ≡ word_end line i → length line ≤ i → i ≡ e
-  unfolding word_end until_gap
-  word_done q l = omega (arith, q, ap (λ xs. length (until_gap xs)) (drop_of_length-le line l))
+  pub word_is : r ≡ position is_separator xs → unwrap_or r (length xs) ≡ length (until_gap xs)
+  word_is e = rw (e, ← word_first xs) (first_or_all (length (until_gap xs)) (length xs) (word_le xs))

@@ -1,19 +1,21 @@
 -- The words of a line as the readers come to them: over the gap to the next word, and over the word to the gap after it.
-use Prim.Native.Nat.{ℕ, suc, ◌+◌, ◌*◌, ◌-◌, ◌≤◌, ◌<◌}
+use Prim.Native.Nat.{ℕ, suc, ◌+◌, ◌-◌, ◌≤◌, ◌<◌}
 use mathlib.Core.Path.{◌≡◌, refl, sym, ap, ◌∙◌}
 use mathlib.Core.Bool.{Bool, true, false}
 use mathlib.Core.List.{List, [], ◌∷◌}
 use native.Mathlib.Omega.{arith}
 use native.Mathlib.Nat.{suc-add, suc-ne-zero}
 use native.Mathlib.Numerals.{unary_clauses}
-use lib.ListN.{length, take, drop, get_or, drop_of_length-le}
-use lib.Seq.{drop-cons, drop-drop}
-use borrow.Author.Tests.{lt-ltb, le-ltb}
+use lib.ListN.{length, take, drop, get_or, length-drop, drop_of_length-le}
+use lib.Seq.{drop-cons}
 use Rattle.p0_choice.specs.Choice.{pick}
 use Rattle.p1_letters.specs.Alphabet.{is_separator}
 use Rattle.p4_spelling.specs.Verdict.{verdict}
 use Rattle.p4_note_line.specs.Line.{Placed, until_gap, line_words_from}
-use Rattle.p4_note_line.specs.Mirror.{gap_run, gap_end, word_end, tallied, tallied_all, tallied_from}
+use Rattle.p4_note_line.specs.declared.Report.{Report}
+use Rattle.p4_note_line.specs.Mirror.{gap_run, one_more, counted, counted_from, CanCount, BeginsWord}
+use Rattle.p4_spelling.proofs.Scans.{whole_rest}
+use Rattle.p4_note_line.proofs.Scans.{gap_le, word_le}
 
 -- the words of a line whose first letter x is a gap's or not, as b says
 abbrev pub stepped : Bool → Bool → ℕ → ℕ → List ℕ → List Placed
@@ -88,59 +90,76 @@ begins : (at x : ℕ) (xs : List ℕ) → is_separator x ≡ false
 unfolding line_words_from
 begins at x xs e = rw e refl
 
--- ---- at a place of a line, over the gap
-module _ (line : List ℕ) (tally at next r : ℕ) (e : next ≡ gap_end line at) where
-  pub gap_next : r ≡ tallied_from tally next line → r ≡ tallied_from tally at line
-  unfolding tallied_from gap_end
-  gap_next q =
-      let left = drop-drop (gap_run (drop at line)) at line ∙ ap (λ n. drop n line) (sym e) in
-      q ∙ ap (tallied_all tally) (sym (over_gap at (drop at line) ∙ (λ i. line_words_from false (sym e i) (left i))))
+-- the letters that are left after n
+pub left_length : (xs : List ℕ) (n : ℕ) → n ≤ length xs → length (take (length xs - n) (drop n xs)) ≡ length xs - n
+left_length xs n h = ap length (whole_rest xs n h) ∙ length-drop n xs
 
-  pub gap_last : next ≡ length line → r ≡ tally → r ≡ tallied_from tally at line
-  unfolding tallied_from tallied_all line_words_from
-  gap_last l q =
-      let past : length line ≤ next = omega (arith, l) in
-      gap_next (q ∙ ap (λ xs. tallied_all tally (line_words_from false next xs)) (sym (drop_of_length-le line past)))
+-- ---- over a gap of n letters
+module _ (xs : List ℕ) (at n : ℕ) (c : Report) (e : n ≡ gap_run xs) where
+  rest_is : take (length xs - n) (drop n xs) ≡ drop n xs
+  rest_is = whole_rest xs n (omega (arith, gap_le xs))
 
-  gap_left : gap_run (drop next line) ≡ 0
-  unfolding gap_end
-  gap_left = ap gap_run (sym (drop-drop (gap_run (drop at line)) at line ∙ ap (λ n. drop n line) (sym e))) ∙ none_left (drop at line)
+  pub gap_next : (r : Report) → r ≡ counted_from c (at + n) (take (length xs - n) (drop n xs)) → r ≡ counted_from c at xs
+  unfolding counted_from
+  gap_next r q = q ∙ rw (rest_is, e) (ap (counted c) (sym (over_gap at xs)))
 
-  pub gap_before_lem : next ≤ length line → (next ≡ length line → ⊥) → is_separator (get_or line next 0) ≡ false
-  gap_before_lem m n =
-      let l : next < length line = omega (arith, m, n) in
-      first_left (get_or line next 0) (drop (suc next) line) (sym (ap gap_run (drop-cons line next 0 l)) ∙ gap_left)
+  pub gap_last : n ≡ length xs → c ≡ counted_from c at xs
+  unfolding counted_from counted line_words_from
+  gap_last l =
+      let past : length xs ≤ gap_run xs = omega arith in
+      sym (ap (counted c) (over_gap at xs ∙ ap (line_words_from false (at + gap_run xs)) (drop_of_length-le xs past)))
 
--- ---- and over the word
-module _ (line : List ℕ) (tally at end r : ℕ) (v : Bool) (l : at < length line) (s : is_separator (get_or line at 0) ≡ false)
-    (e : end ≡ word_end line at) where
-  long : end - at ≡ length (until_gap (drop at line))
-  unfolding word_end
-  long = omega (arith, e)
+  pub gap_begins : (n ≡ length xs → ⊥) → BeginsWord (take (length xs - n) (drop n xs))
+  gap_begins d =
+      let l : n < length xs = omega (arith, gap_le xs) in
+      rw rest_is
+      (record {
+        some = omega (arith, length-drop n xs);
+        letter = rw (drop-cons xs n 0 l) (first_left (get_or xs n 0) (drop (suc n) xs) (ap gap_run (sym (drop-cons xs n 0 l)) ∙ left));
+      })
+    where
+      left : gap_run (drop n xs) ≡ 0
+      left = rw e (none_left xs)
 
-  read : line_words_from false at (drop at line)
-      ≡ record { start = at; letters = take (end - at) (drop at line) } ∷ line_words_from false end (drop end line)
-  unfolding word_end
+  pub gap_counts : CanCount at xs c → CanCount (at + n) (take (length xs - n) (drop n xs)) c
+  gap_counts k = rw rest_is (record { short = omega (arith, gap_le xs, length-drop n xs); few = omega arith; fewer = k.fewer })
+
+-- ---- and over a word
+module _ (xs : List ℕ) (at n : ℕ) (c : Report) (b : BeginsWord xs) (e : n ≡ length (until_gap xs)) where
+  whole : take (length xs - n) (drop n xs) ≡ drop n xs
+  whole = whole_rest xs n (omega (arith, word_le xs))
+
+  cons : get_or xs 0 0 ∷ drop 1 xs ≡ xs
+  cons = sym (drop-cons xs 0 0 b.some)
+
+  pub word_some : 0 < n
+  unfolding until_gap
+  word_some = rw e (rw (← cons, b.letter) (omega arith))
+
+  read : line_words_from false at xs ≡ record { start = at; letters = take n xs } ∷ line_words_from false (at + n) (drop n xs)
   read =
-      let left = drop-drop (length (until_gap (drop at line))) at line ∙ ap (λ n. drop n line) (sym e) in
-      let here = drop-cons line at 0 l in
-      let word = sym (taken_word (drop at line)) ∙ ap (λ n. take n (drop at line)) (sym long) in
-      ap (line_words_from false at) here ∙ begins at (get_or line at 0) (drop (suc at) line) s
-      ∙ ap (λ xs. record { start = at; letters = until_gap xs } ∷ line_words_from true at xs) (sym here)
-      ∙ (λ i. record { start = at; letters = word i } ∷ (over_word at (drop at line) ∙ (λ j. line_words_from false (sym e j) (left j))) i)
+      rw (e, taken_word xs)
+      (rw (← over_word at xs)
+      (rw cons at (begins at (get_or xs 0 0) (drop 1 xs) b.letter)))
 
-  word_read : v ≡ verdict (take (end - at) (drop at line)) → tallied_from (tallied tally at v) end line ≡ tallied_from tally at line
-  unfolding tallied_from tallied_all
-  word_read q = rw q (ap (tallied_all tally) (sym read))
+  pub word_next : (v : Bool) (o r : Report) → v ≡ verdict (take n xs) → o ≡ one_more c at v
+      → r ≡ counted_from o (at + n) (take (length xs - n) (drop n xs)) → r ≡ counted_from c at xs
+  unfolding counted_from counted
+  word_next v o r q m h =
+      h ∙ rw (whole, m, q) (ap (counted c) (sym read))
 
-  pub word_yes : v ≡ verdict (take (end - at) (drop at line)) → v ≡ true → r ≡ tallied_from (tally + 1) end line
-      → r ≡ tallied_from tally at line
-  word_yes q y m = m ∙ rw y at (word_read q)
+  pub word_counts : (v : Bool) (o : Report) → o ≡ one_more c at v → CanCount at xs c
+      → CanCount (at + n) (take (length xs - n) (drop n xs)) o
+  word_counts v o m k = rw (whole, m) (record {
+    short = omega (arith, word_le xs, length-drop n xs);
+    few = few v;
+    fewer = fewer v;
+  })
+    where
+      few : (v : Bool) → (one_more c at v).words ≤ at + n
+      few true = omega (arith, word_some, k)
+      few false = omega (arith, word_some, k)
 
-  pub word_first_no : v ≡ verdict (take (end - at) (drop at line)) → v ≡ false → tally < 65536
-      → r ≡ tallied_from (tally + 65537 + 4294967296 * at) end line → r ≡ tallied_from tally at line
-  word_first_no q n few m = m ∙ rw (lt-ltb tally 65536 few) at (rw n at (word_read q))
-
-  pub word_no : v ≡ verdict (take (end - at) (drop at line)) → v ≡ false → 65536 ≤ tally → r ≡ tallied_from (tally + 65537) end line
-      → r ≡ tallied_from tally at line
-  word_no q n some m = m ∙ rw (le-ltb tally 65536 some) at (rw n at (word_read q))
+      fewer : (v : Bool) → (one_more c at v).noes ≤ (one_more c at v).words
+      fewer true = omega (arith, k)
+      fewer false = omega (arith, k)

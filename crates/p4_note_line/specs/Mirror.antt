@@ -1,41 +1,38 @@
 -- How the code holds things: no sentence of document 01 stands here, and no promise to a host leads here.
-use Rattle.std.specs.Prelude.{ℕ, suc, ◌+◌, ◌*◌, ◌/◌, ◌%◌, Bool, true, false, List, [], ◌∷◌, ltb, length, drop}
+use Rattle.std.specs.Prelude.{ℕ, suc, ◌≡◌, ◌+◌, ◌≤◌, ◌<◌, Bool, true, false, List, [], ◌∷◌, eqb, length, get_or}
 use Rattle.p0_choice.specs.Choice.{pick}
 use Rattle.p1_letters.specs.Alphabet.{is_separator}
 use Rattle.p4_spelling.specs.Verdict.{verdict}
 use Rattle.p4_note_line.specs.declared.Report.{Report}
-use Rattle.p4_note_line.specs.Line.{Placed, until_gap, line_words_from}
+use Rattle.p4_note_line.specs.Line.{Placed, line_limit, line_words_from}
 
 -- how many gap letters the line starts with
 unfoldable pub gap_run : List ℕ → ℕ
 gap_run [] = 0
 gap_run (x ∷ xs) = pick (is_separator x) (suc (gap_run xs)) 0
 
-unfoldable pub gap_end : List ℕ → ℕ → ℕ
-gap_end line at = at + gap_run (drop at line)
+-- what is told of the words so far, with a word more, which begins at `at`; while none is judged no, the first place is the line's length
+abbrev pub one_more : Report → ℕ → Bool → Report
+one_more c at true = record { words = c.words + 1; noes = c.noes; first = c.first }
+one_more c at false = record { words = c.words + 1; noes = c.noes + 1; first = pick (eqb c.noes 0) at c.first }
 
-unfoldable pub word_end : List ℕ → ℕ → ℕ
-word_end line at = at + length (until_gap (drop at line))
+-- with these words more, in their order
+unfoldable pub counted : Report → List Placed → Report
+counted c [] = c
+counted c (p ∷ ps) = counted (one_more c p.start (verdict p.letters)) ps
 
--- The counters of the readers, in one number: the words, 65536 times those judged no, and 4294967296 times the first one's place. Below
--- 65536 none is judged no.
-abbrev pub tallied : ℕ → ℕ → Bool → ℕ
-tallied tally at true = tally + 1
-tallied tally at false = pick (ltb tally 65536) (tally + 65537 + 4294967296 * at) (tally + 65537)
+-- with the words of the letters that stand after `at` others, where a gap stands or a word begins
+unfoldable pub counted_from : Report → ℕ → List ℕ → Report
+counted_from c at xs = counted c (line_words_from false at xs)
 
-unfoldable pub tallied_all : ℕ → List Placed → ℕ
-tallied_all tally [] = tally
-tallied_all tally (p ∷ ps) = tallied_all (tallied tally p.start (verdict p.letters)) ps
+-- ---- what the readers ask
+-- a line within the limit, and no more words than letters before
+pub record CanCount (at : ℕ) (rest : List ℕ) (before : Report) : Type 0 where
+  pub short : at + length rest ≤ line_limit
+  pub few : before.words ≤ at
+  pub fewer : before.noes ≤ before.words
 
--- with the words of the line from `at` on, where a gap stands or a word begins
-unfoldable pub tallied_from : ℕ → ℕ → List ℕ → ℕ
-tallied_from tally at line = tallied_all tally (line_words_from false at (drop at line))
-
--- what is told by such a number of a line of n letters
-unfoldable pub untallied : ℕ → ℕ → Report
-untallied tally n =
-    record {
-      words = tally % 65536;
-      noes = tally / 65536 % 65536;
-      first = pick (ltb tally 65536) n (tally / 4294967296);
-    }
+-- a letter of a word first
+pub record BeginsWord (rest : List ℕ) : Type 0 where
+  pub some : 0 < length rest
+  pub letter : is_separator (get_or rest 0 0) ≡ false

@@ -2,10 +2,9 @@
 // as it comes in.
 #![tactic(auto)]
 
-ghost use Rattle.std.specs.Prelude.{◌≡◌, false, ◌+◌, ◌*◌, ◌<◌, ◌≤◌, length, get_or};
-ghost use Rattle.p1_letters.specs.Alphabet.{is_separator};
-ghost use Rattle.p4_note_line.specs.Line.{line_limit, taking, line_fault, line_answer};
-ghost use Rattle.p4_note_line.specs.Mirror.{gap_end, word_end, tallied_from, untallied};
+ghost use Rattle.std.specs.Prelude.{◌≡◌, ◌≤◌, length};
+ghost use Rattle.p4_note_line.specs.Line.{line_limit, until_gap, taking, line_fault, line_answer};
+ghost use Rattle.p4_note_line.specs.Mirror.{gap_run, one_more, counted_from, CanCount, BeginsWord};
 
 use p0_refusals::{LETTERS, Refusal};
 use p1_letters as letters;
@@ -65,86 +64,71 @@ fn fault_in(line: &[u32]) -> Result<usize, Refusal>
     Ok(line.len())
 }
 
-// Where the gap that begins at `at` ends; at `at` itself if none begins there.
-fn gap_end(line: &[u32], at: usize) -> usize
-    requires { at ≤ length line.now }
-    ensures { (result ≡ gap_end line.now at) × (at ≤ result) × (result ≤ length line.now) }
+// How many letters of a gap the letters begin with.
+fn gap_run(rest: &[u32]) -> usize
+    ensures value { result ≡ gap_run rest.now }
+    ensures within { result ≤ length rest.now }
 {
-    let mut i = at;
-    while i < line.len() {
-        if !letters::is_separator(line[i]) {
-            return i;
-        }
-        i += 1;
-    }
-    i
+    rest.iter()
+        .position(|x| !letters::is_separator(*x))
+        .unwrap_or(rest.len())
 }
 
-// Where the word that begins at `at` ends.
-fn word_end(line: &[u32], at: usize) -> usize
-    requires { (at < length line.now) × (is_separator (get_or line.now at 0) ≡ false) }
-    ensures { (result ≡ word_end line.now at) × (at < result) × (result ≤ length line.now) }
+// How many letters of a word.
+fn word_run(rest: &[u32]) -> usize
+    ensures value { result ≡ length (until_gap rest.now) }
+    ensures within { result ≤ length rest.now }
 {
-    let mut i = at + 1;
-    while i < line.len() {
-        if letters::is_separator(line[i]) {
-            return i;
-        }
-        i += 1;
-    }
-    i
+    rest.iter()
+        .position(|x| letters::is_separator(*x))
+        .unwrap_or(rest.len())
 }
 
-// ---- the readers, which call each other over the letters that are left. What was counted before `at` goes along as one number, the
-// tally: words, 65536 times those judged no, and 4294967296 times the first one's place. So a frame is small, and there is one
-// for a word and the gap after it, not for a letter.
+impl Report {
+    // A word more, which begins at `at`.
+    pub fn add(&mut self, at: usize, yes: bool)
+        requires { (self.old.words ≤ line_limit) × (self.old.noes ≤ line_limit) }
+        ensures { self.new ≡ one_more self.old at yes }
+    {
+        self.words += 1;
+        if yes {
+            return;
+        }
+        if self.noes == 0 {
+            self.first = at;
+        }
+        self.noes += 1;
+    }
+}
+
+// ---- the readers, which call each other over the letters that are left, before which `at` letters stand. They add to what was told of
+// those; while none is judged no its first place is the line's length. So there is a call for a word and the gap after it, not for a
+// letter. The report goes along lent, and not by value: the compiler then makes a loop of the two, and no line takes more stack than
+// another.
 
 // The gap reader: "a word is followed by a gap ..".
 #[cycle(gap_word)]
-fn gap(line: &[u32], at: usize, tally: u64) -> u64
-    requires { (length line.now ≤ line_limit) × (at ≤ length line.now) × (tally ≤ 65537 * at + 4294967296 * line_limit) }
-    ensures { result ≡ tallied_from tally at line.now }
+fn gap(rest: &[u32], at: usize, told: &mut Report)
+    requires { CanCount at rest.now told.old }
+    ensures { told.new ≡ counted_from told.old at rest.now }
 {
-    let next = gap_end(line, at);
-    if next == line.len() {
-        return tally;
+    let run = gap_run(rest);
+    if run != rest.len() {
+        word(&rest[run..], at + run, told);
     }
-    word(line, next, tally)
 }
 
 // The word reader: ".. and a gap by a word".
 #[cycle(gap_word)]
-fn word(line: &[u32], at: usize, tally: u64) -> u64
-    requires { (length line.now ≤ line_limit) × (at < length line.now) × (tally ≤ 65537 * at + 4294967296 * line_limit)
-        × (is_separator (get_or line.now at 0) ≡ false) }
-    ensures { result ≡ tallied_from tally at line.now }
+fn word(rest: &[u32], at: usize, told: &mut Report)
+    requires room { CanCount at rest.now told.old }
+    requires begins { BeginsWord rest.now }
+    ensures { told.new ≡ counted_from told.old at rest.now }
 {
-    let end = word_end(line, at);
-    if spelling::accepts(&line[at..end]) {
-        return gap(line, end, tally + 1);
-    }
-    if tally < 65536 {
-        return gap(line, end, tally + 65537 + 4294967296 * (at as u64));
-    }
-    gap(line, end, tally + 65537)
-}
-
-// What a tally tells of a line of n letters.
-fn untally(tally: u64, n: usize) -> Report
-    ensures { result ≡ untallied tally n }
-{
-    if tally < 65536 {
-        return Report {
-            words: (tally % 65536) as usize,
-            noes: (tally / 65536 % 65536) as usize,
-            first: n,
-        };
-    }
-    Report {
-        words: (tally % 65536) as usize,
-        noes: (tally / 65536 % 65536) as usize,
-        first: (tally / 4294967296) as usize,
-    }
+    let run = word_run(rest);
+    let yes = spelling::accepts(&rest[..run]);
+    told.add(at, yes);
+    gap(&rest[run..], at + run, told);
 }
 
 // A whole line, checked. Refusals by place: 1 and 6, whichever stands first.
@@ -152,5 +136,11 @@ pub fn check(line: &[u32]) -> Result<Report, Refusal>
     ensures { result ≡ line_answer line.now }
 {
     let length = fault_in(line)?;
-    Ok(untally(gap(line, 0, 0), length))
+    let mut told = Report {
+        words: 0,
+        noes: 0,
+        first: length,
+    };
+    gap(line, 0, &mut told);
+    Ok(told)
 }

@@ -1,19 +1,18 @@
 -- The tests of soundness, as the code goes through them.
 use Prim.Native.Nat.{ℕ, suc, ◌+◌, ◌-◌, ◌<◌, ◌≤◌}
 use mathlib.Core.Path.{◌≡◌, refl, sym, ◌∙◌}
-use mathlib.Core.Bool.{Bool, true, false, not}
+use mathlib.Core.Bool.{Bool, true, false}
 use mathlib.Core.List.{List}
 use native.Mathlib.Numerals.{add-one}
 use native.Mathlib.Omega.{arith}
 use lib.Dec.{eqb, leb}
 use lib.ListN.{length, get_or, drop, drop_of_length-le}
 use lib.Seq.{drop-cons}
-use borrow.Author.Tests.{eq-eqb, ne_eqb, not-true, not-false}
+use borrow.Author.Tests.{eq-eqb, ne_eqb}
 use Rattle.p0_choice.specs.Choice.{pick}
 use Rattle.p0_refusals.specs.Limits.{letter_limit}
-use Rattle.p1_letters.specs.Alphabet.{in_alphabet, is_separator}
 use Rattle.p4_note_line.specs.Line.{line_limit}
-use Rattle.p4_note_parts.specs.State.{Standing, in_word, letters_fit, counts_fit, end_fits, line_sound}
+use Rattle.p4_note_parts.specs.State.{in_word, letters_fit, counts_fit, end_fits, line_sound}
 use Rattle.p4_note_parts.specs.declared.Line.{Line}
 use Rattle.p4_note_parts.proofs.Soundness.{counts_told}
 
@@ -45,20 +44,13 @@ module _ (kept : List ℕ) (run : ℕ) where
     pub kept_none : run ≤ i → get_or kept i 0 ≡ 0 → letters_fit run kept ≡ letters_fit (run - (i + 1)) (drop (i + 1) kept)
     kept_none l d = past l ∙ rw (eq-eqb (get_or kept i 0) 0 d)
 
-    -- one of the open word is a letter that a word can have: v and g are what the two tests of it answer
-    module _ (v g : Bool) (l : i < run) (a : v ≡ in_alphabet (get_or kept i 0)) where
-      pub kept_foreign : not v ≡ true → false ≡ letters_fit run kept
-      unfolding in_word
-      kept_foreign t = sym (within l ∙ rw (← a, not-true v t))
+    -- one of the open word is a letter that a word can have, as v answers
+    pub kept_foreign : (v : Bool) → i < run → v ≡ in_word (get_or kept i 0) → v ≡ false → false ≡ letters_fit run kept
+    kept_foreign v l a t = sym (within l ∙ rw (← a, t))
 
-      pub kept_gap : not v ≡ false → g ≡ is_separator (get_or kept i 0) → g ≡ true → false ≡ letters_fit run kept
-      unfolding in_word
-      kept_gap t b q = sym (within l ∙ rw (← a, not-false v t, ← b, q))
-
-      pub kept_on : not v ≡ false → g ≡ is_separator (get_or kept i 0) → g ≡ false
-          → letters_fit run kept ≡ letters_fit (run - (i + 1)) (drop (i + 1) kept)
-      unfolding in_word
-      kept_on t b q = within l ∙ rw (← a, not-false v t, ← b, q)
+    pub kept_on : (v : Bool) → i < run → v ≡ in_word (get_or kept i 0) → v ≡ true
+        → letters_fit run kept ≡ letters_fit (run - (i + 1)) (drop (i + 1) kept)
+    kept_on v l a t = within l ∙ rw (← a, t)
 
   -- none is left, and none was refused
   pub kept_all : (i : ℕ) → letters_fit run kept ≡ letters_fit (run - i) (drop i kept) → length kept ≤ i → true ≡ letters_fit run kept
@@ -76,10 +68,6 @@ module _ (s : Line) where
 
   pub first_over : s.length < s.first → false ≡ counts_fit s
   first_over l = is_no (counts_fit s) (λ h. let c = counts_told s h in omega arith)
-
--- ---- the end, by what the line stands at
-pub end_at : (r : Bool) (w v : Standing) (length run : ℕ) → w ≡ v → r ≡ end_fits v length run → r ≡ end_fits w length run
-end_at r w v length run e h = rw e h
 
 -- ---- the tests together: the limits stand with the counts
 pub sound_tests : (s : Line) (r : Bool)

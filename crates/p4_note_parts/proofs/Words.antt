@@ -1,7 +1,7 @@
 -- The open word: its verdict, the counts with it, and the states that a letter more makes of it.
 use Rattle.std.specs.Prelude.{Ok}
 use Prim.Native.Nat.{ℕ, ◌+◌, ◌-◌, ◌≤◌}
-use mathlib.Core.Path.{◌≡◌, ap, ◌∙◌}
+use mathlib.Core.Path.{◌≡◌, refl, ◌∙◌}
 use mathlib.Core.Bool.{Bool, true, false}
 use mathlib.Core.List.{List}
 use native.Mathlib.Numerals.{add-one}
@@ -14,33 +14,34 @@ use borrow.Author.Tests.{ne_eqb}
 use Rattle.p0_choice.specs.Choice.{pick}
 use Rattle.p0_choice.proofs.Choices.{pick_le}
 use Rattle.p4_spelling.specs.Verdict.{verdict, longest_length}
-use Rattle.p4_spelling.proofs.Scans.{from_start}
 use Rattle.p4_note_line.specs.declared.Report.{Report}
+use Rattle.p4_note_line.specs.Line.{line_limit}
+use Rattle.p4_note_line.specs.Mirror.{one_more}
 use Rattle.p4_note_parts.specs.declared.Line.{Line}
 use Rattle.p4_note_parts.specs.State.{blank_letters, line_sound}
 use Rattle.p4_note_parts.specs.Parts.{open_accepted, word_more, counted_all, gap_taken, letter_taken}
 use Rattle.p4_note_parts.proofs.Soundness.{sound_facts}
 
 -- a word that has all its letters kept is judged by them, lent as a part of the room
-pub open_judged : (run : ℕ) (kept : List ℕ) (r : Bool) → run ≤ longest_length → r ≡ verdict (take (run - 0) kept) → r ≡ open_accepted run kept
+pub open_judged : (run : ℕ) (kept : List ℕ) (r : Bool) → run ≤ longest_length → r ≡ verdict (take run kept) → r ≡ open_accepted run kept
 unfolding open_accepted
-open_judged run kept r l e = pick_le run longest_length r _ _ l (e ∙ ap verdict (from_start kept run))
+open_judged run kept r l e = pick_le run longest_length r _ _ l e
 
 module _ (s : Line) where
-  -- ---- the counts, with the open word's verdict v
-  module _ (v : Bool) (d : (s.run ≡ 0 → ⊥)) (q : v ≡ open_accepted s.run s.letters) where
-    more : word_more s.words s.noes s.first (s.length - s.run) v ≡ counted_all s
-    unfolding counted_all
-    more = rw (ne_eqb s.run 0 d, ← q)
+  -- ---- the counts: with no open word, and with one of the verdict v
+  pub none_open : s.run ≡ 0 → record { words = s.words; noes = s.noes; first = s.first } ≡ counted_all s
+  unfolding counted_all
+  none_open e = rw e
 
-    pub more_yes : v ≡ true → record { words = s.words + 1; noes = s.noes; first = s.first } ≡ counted_all s
-    more_yes e = rw (← more, e, add-one)
-
-    pub more_first_no : v ≡ false → s.noes ≡ 0 → record { words = s.words + 1; noes = 1; first = s.length - s.run } ≡ counted_all s
-    more_first_no e z = rw (← more, e, z, add-one)
-
-    pub more_no : v ≡ false → (s.noes ≡ 0 → ⊥) → record { words = s.words + 1; noes = s.noes + 1; first = s.first } ≡ counted_all s
-    more_no e n = rw (← more, e, ne_eqb s.noes 0 n, add-one, add-one)
+  pub one_open : (v : Bool) (r : Report) → (s.run ≡ 0 → ⊥) → v ≡ open_accepted s.run s.letters
+      → r ≡ one_more (record { words = s.words; noes = s.noes; first = s.first }) (s.length - s.run) v → r ≡ counted_all s
+  unfolding counted_all
+  one_open v r d q m = m ∙ rw (ne_eqb s.run 0 d, ← q) (same v)
+    where
+      same : (v : Bool) → one_more (record { words = s.words; noes = s.noes; first = s.first }) (s.length - s.run) v
+          ≡ word_more s.words s.noes s.first (s.length - s.run) v
+      same true = rw (add-one s.words) refl
+      same false = rw (add-one s.words, add-one s.noes) refl
 
   -- ---- a letter more, as the code makes the state. A gap closes the open word
   pub closed : (n : Report) → n ≡ counted_all s
@@ -83,11 +84,17 @@ module _ (s : Line) where
     pub run_within : s.run ≤ s.length
     run_within = omega (arith, sound_facts s h)
 
-    pub one_more : (n : ℕ) → n ≤ s.length → Fits w64 (n + 1)
-    one_more n l = record { fits = omega (arith, sound_facts s h) }
+    pub few_words : s.words ≤ line_limit
+    few_words = omega (arith, sound_facts s h)
+
+    pub few_noes : s.noes ≤ line_limit
+    few_noes = omega (arith, sound_facts s h)
+
+    pub one_more_fits : (n : ℕ) → n ≤ s.length → Fits w64 (n + 1)
+    one_more_fits n l = record { fits = omega (arith, sound_facts s h) }
 
     pub length_fits : Fits w64 (s.length + 1)
-    length_fits = one_more s.length (omega arith)
+    length_fits = one_more_fits s.length (omega arith)
 
     pub run_fits : Fits w64 (s.run + 1)
-    run_fits = one_more s.run run_within
+    run_fits = one_more_fits s.run run_within

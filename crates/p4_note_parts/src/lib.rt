@@ -2,12 +2,11 @@
 // handed over by value, and `p6_note_bytes` has it as bytes.
 #![tactic(auto)]
 
-ghost use Rattle.std.specs.Prelude.{◌≡◌, true, false, length, leb};
+ghost use Rattle.std.specs.Prelude.{◌≡◌, true, false, leb};
 ghost use Rattle.p0_choice.specs.Choice.{pick};
 ghost use Rattle.p0_refusals.specs.Limits.{letter_limit};
-ghost use Rattle.p4_spelling.specs.Verdict.{longest_length};
 ghost use Rattle.p4_note_line.specs.Line.{line_limit};
-ghost use Rattle.p4_note_parts.specs.State.{begun, letters_fit, counts_fit, end_fits, line_sound};
+ghost use Rattle.p4_note_parts.specs.State.{begun, in_word, letters_fit, counts_fit, end_fits, line_sound};
 ghost use Rattle.p4_note_parts.specs.Parts.{open_accepted, counted_all, gap_taken, letter_taken, ended, part_taken};
 ghost use Rattle.p4_note_parts.specs.Parts.{part_after, state_answer};
 
@@ -43,65 +42,45 @@ pub struct LineAfter {
 
 // ---- soundness
 
+// A letter that a word can have.
+#[tactic(auto, using(p0_choice::proofs::Choices::calls), unfolding(crate::specs::State::in_word))]
+fn in_word(x: u32) -> bool
+    ensures { result ≡ in_word x }
+{
+    letters::in_alphabet(x) && !letters::is_separator(x)
+}
+
 // The kept letters of an open word of `run` letters.
-fn letters_fit(kept: &[u32], run: usize) -> bool
+#[tactic(auto, using(crate::proofs::Tests::kept_start_lem, crate::proofs::Tests::kept_stray, crate::proofs::Tests::kept_none, crate::proofs::Tests::kept_foreign, crate::proofs::Tests::kept_on, crate::proofs::Tests::kept_all))]
+fn letters_fit(kept: &[u32; LONGEST], run: usize) -> bool
     ensures { result ≡ letters_fit run kept.now }
 {
-    let mut i: usize = 0;
-    while i < kept.len() {
-        let x = kept[i];
-        if run <= i {
-            if x != 0 {
+    for (i, x) in kept.iter().enumerate() {
+        if i < run {
+            if !in_word(*x) {
                 return false;
             }
-            i += 1;
-            continue;
-        }
-        if !letters::in_alphabet(x) {
+        } else if *x != 0 {
             return false;
         }
-        if letters::is_separator(x) {
-            return false;
-        }
-        i += 1;
     }
     true
 }
 
 // The words that have ended. What exceeds the length is told first, so that no sum wraps.
+#[tactic(auto, using(p0_choice::proofs::Choices::picks, crate::proofs::Tests::words_over, crate::proofs::Tests::first_over), unfolding(crate::specs::State::counts_fit))]
 fn counts_fit(s: Line) -> bool
     ensures { result ≡ pick (leb s.length line_limit) (pick (leb s.run letter_limit) (counts_fit s) false) false }
 {
-    let length = s.length;
-    let run = s.run;
-    let words = s.words;
-    let noes = s.noes;
-    let first = s.first;
-    if LINE < length {
+    if LINE < s.length || LETTERS < s.run || s.length < s.words || s.length < s.first {
         return false;
     }
-    if LETTERS < run {
-        return false;
+    if s.noes == 0 {
+        return s.first == 0 && 2 * s.words + s.run <= s.length;
     }
-    if length < words {
-        return false;
-    }
-    if noes == 0 {
-        if first != 0 {
-            return false;
-        }
-        return 2 * words + run <= length;
-    }
-    if words < noes {
-        return false;
-    }
-    if length < first {
-        return false;
-    }
-    if length < first + 2 * noes + run {
-        return false;
-    }
-    2 * words + run + first % 2 <= length
+    s.noes <= s.words
+        && s.first + 2 * s.noes + s.run <= s.length
+        && 2 * s.words + s.run + s.first % 2 <= s.length
 }
 
 fn end_fits(standing: Standing, length: usize, run: usize) -> bool
@@ -115,65 +94,38 @@ fn end_fits(standing: Standing, length: usize, run: usize) -> bool
 }
 
 // A state that some line leads to.
+#[tactic(auto, using(crate::proofs::Tests::sound_tests, p0_choice::proofs::Choices::calls))]
 pub fn sound(s: Line) -> bool
     ensures { result ≡ line_sound s }
 {
-    if !counts_fit(s) {
-        return false;
-    }
-    let standing = s.standing;
-    if !end_fits(standing, s.length, s.run) {
-        return false;
-    }
-    let kept = s.letters;
-    letters_fit(&kept, s.run)
+    counts_fit(s) && end_fits(s.standing, s.length, s.run) && letters_fit(&s.letters, s.run)
 }
 
 // ---- letters
 
 // The verdict on an open word. None that is longer than LONGEST is accepted.
-fn open_accepted(kept: &[u32], run: usize) -> bool
-    requires { length kept.now ≡ longest_length }
+#[tactic(auto, using(p0_choice::proofs::Choices::picks, crate::proofs::Words::open_judged), unfolding(crate::specs::Parts::open_accepted))]
+fn open_accepted(kept: &[u32; LONGEST], run: usize) -> bool
     ensures { result ≡ open_accepted run kept.now }
 {
-    if LONGEST < run {
-        return false;
-    }
-    spelling::accepts(&kept[0..run])
+    run <= LONGEST && spelling::accepts(&kept[..run])
 }
 
 // What is counted, the open word too.
+#[tactic(auto, using(crate::proofs::Words::none_open, crate::proofs::Words::one_open, crate::proofs::Words::run_within, crate::proofs::Words::few_words, crate::proofs::Words::few_noes))]
 fn counted(s: Line) -> Report
     requires { line_sound s ≡ true }
     ensures { result ≡ counted_all s }
 {
-    if s.run == 0 {
-        return Report {
-            words: s.words,
-            noes: s.noes,
-            first: s.first,
-        };
-    }
-    let kept = s.letters;
-    if open_accepted(&kept, s.run) {
-        return Report {
-            words: s.words + 1,
-            noes: s.noes,
-            first: s.first,
-        };
-    }
-    if s.noes == 0 {
-        return Report {
-            words: s.words + 1,
-            noes: 1,
-            first: s.length - s.run,
-        };
-    }
-    Report {
-        words: s.words + 1,
-        noes: s.noes + 1,
+    let mut told = Report {
+        words: s.words,
+        noes: s.noes,
         first: s.first,
+    };
+    if s.run != 0 {
+        told.add(s.length - s.run, open_accepted(&s.letters, s.run));
     }
+    told
 }
 
 // The open word has ended by a gap.
@@ -241,6 +193,7 @@ fn take_part(mut s: Line, part: &[u32]) -> Line
 // ---- the calls
 
 // A new line.
+#[tactic(auto, unfolding(crate::specs::State::begun))]
 pub fn begin() -> Line
     ensures { result ≡ begun }
 {

@@ -52,7 +52,7 @@ run_first w =
     turned true n = omega arith
     turned false n = refl
 
-first_or_all : (n m : ℕ) → n ≤ m → unwrap_or (cond (nat_lt n m) (Some n) None) m ≡ n
+pub first_or_all : (n m : ℕ) → n ≤ m → unwrap_or (cond (nat_lt n m) (Some n) None) m ≡ n
 first_or_all n m h = go (nat_lt n m) refl
   where
     go : (b : Bool) → nat_lt n m ≡ b → unwrap_or (cond b (Some n) None) m ≡ n

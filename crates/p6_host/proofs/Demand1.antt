@@ -19,7 +19,7 @@ use Rattle.p0_refusals.specs.Refusals.{number_of}
 use Rattle.p0_refusals.specs.declared.Refusal.TheVariants.{Unsound}
 use Rattle.p3_cells.specs.declared.After.{After}
 use Rattle.p4_note_line.specs.Line.{line_answer, checked_number}
-use Rattle.p4_note_line.specs.declared.Checked.{Checked}
+use Rattle.p4_note_line.specs.declared.Report.{Report}
 use Rattle.p4_spelling.specs.Answers.{cut_answer, verdict_answer}
 use Rattle.p5_utf8_text.specs.Read.{reading}
 use Rattle.p5_utf8_text.specs.Write.{writing}
@@ -144,7 +144,7 @@ cut_keeps κs a z w q h =
     beside a.0 (lent a.1.0 (onset_kept g _) (q.0, q.1.0) h vowels)
 
 -- ---- three: what is told of a line
-module _ {A : Type 0} (x : A) (n m f : MutBor ℕ) (g : Checked) {z u v w : ℕ}
+module _ {A : Type 0} (x : A) (n m f : MutBor ℕ) (g : Result Report Refusal) {z u v w : ℕ}
     (q : (z ≡ checked_number g) × ((u ≡ words_out g n.now) × ((v ≡ no_out g m.now) × (w ≡ first_out g f.now)))) (h : z ≡ 0 → ⊥) where
   lent_counts : ◌≡◌ {A = A × (MutBor ℕ × (MutBor ℕ × (MutBor ℕ × Unit {0})))} (x, (at_last n u, (at_last m v, (at_last f w, tt))))
       (x, (n, (m, (f, tt))))

@@ -1,7 +1,7 @@
 -- Request 2026-04 over the four calls' own contracts: "A second form takes the line cut anywhere and answers the same as the whole line
 -- does", "later calls repeat it until a new line is begun", "every state handed out meets" the soundness, and "refusal 10 leaves the
 -- state too as it was".
-use Rattle.std.specs.Prelude.{Err, Ok}
+use Rattle.std.specs.Prelude.{Err, Ok, Result}
 use Prim.Native.Nat.{ℕ}
 use mathlib.Core.Path.{◌≡◌, refl, sym, ap, ◌∙◌}
 use mathlib.Core.Bool.{Bool, true, false}
@@ -16,13 +16,11 @@ use Rattle.p0_refusals.specs.Refusals.{number_of}
 use Rattle.p0_refusals.specs.declared.Refusal.{Refusal}
 use Rattle.p0_refusals.specs.declared.Refusal.TheVariants as Refusals
 use Rattle.p4_note_line.specs.Line.{line_answer, checked_number}
-use Rattle.p4_note_line.specs.declared.Checked.{Checked}
-use Rattle.p4_note_line.specs.declared.Checked.TheVariants as Checks
+use Rattle.p4_note_line.specs.declared.Report.{Report}
 use Rattle.p4_note_parts.specs.Parts.{part_taken, part_after, standing_answer, state_answer}
 use Rattle.p4_note_parts.specs.State.{begun, line_sound}
 use Rattle.p4_note_parts.specs.declared.Line.{Line}
-use Rattle.p4_note_parts.specs.declared.Standing.{Standing}
-use Rattle.p4_note_parts.specs.declared.Standing.TheVariants as Standings
+use Rattle.p4_note_parts.specs.State.{Standing}
 use Rattle.p4_note_parts.proofs.Soundness.{begun_sound}
 use Rattle.p4_note_parts.proofs.Cutting.{parts_taken, part_number, cut_anywhere, repeats}
 use Rattle.p6_note_bytes.specs.Bytes.{line_size, line_bytes, line_of, line_bytes_sound}
@@ -127,12 +125,12 @@ follow_spelt (p ∷ ps) b d s f h =
 
 -- ---- the laws
 -- two that are told of the same line tell the same
-same_told : (g : Checked) (z u v w u' v' w' a b c a' b' c' : ℕ) → z ≡ checked_number g → z ≡ 0
+same_told : (g : Result Report Refusal) (z u v w u' v' w' a b c a' b' c' : ℕ) → z ≡ checked_number g → z ≡ 0
     → (u ≡ words_out g a) × ((v ≡ no_out g b) × (w ≡ first_out g c)) → (u' ≡ words_out g a') × ((v' ≡ no_out g b') × (w' ≡ first_out g c'))
     → (u ≡ u') × (v ≡ v') × (w ≡ w')
-same_told (Checks.Counted n) z u v w u' v' w' a b c a' b' c' e h q r =
+same_told (Ok n) z u v w u' v' w' a b c a' b' c' e h q r =
     (q.0 ∙ sym r.0, q.1.0 ∙ sym r.1.0, q.1.1 ∙ sym r.1.1)
-same_told (Checks.Refused why) z u v w u' v' w' a b c a' b' c' e h q r = absurd (never why (sym e ∙ h))
+same_told (Err why) z u v w u' v' w' a b c a' b' c' e h q r = absurd (never why (sym e ∙ h))
   where
     never : (y : Refusal) → number_of y ≡ 0 → ⊥
     never Refusals.Foreign k = absurd (omega (arith, k))
@@ -216,9 +214,8 @@ module _ (p : Part) (some : p.number ≡ 0 → ⊥) (known : p.number ≡ 10 →
 
       go : (t : Standing) → (part_taken (line_of (before p)) (letters_in p)).standing ≡ t → p.number ≡ refusal_of (standing_answer t)
           → (r : Refusal) × (standing_answer left.standing ≡ Err r) × (p.number ≡ number_of r)
-      go Standings.Going e k = absurd (some k)
-      go Standings.Foreign e k = (Refusals.Foreign, ap standing_answer (here ∙ e), k)
-      go Standings.Long e k = (Refusals.Long, ap standing_answer (here ∙ e), k)
+      go (Ok u) e k = absurd (some k)
+      go (Err r) e k = (r, ap standing_answer (here ∙ e), k)
 
   pub part_repeats : (q : Part) → before q ≡ after p → (q.number ≡ p.number) × (after q ≡ before q)
   part_repeats q e =

@@ -18,23 +18,21 @@ use Rattle.p3_cells.specs.Leaving.{leaving}
 use Rattle.p3_cells.specs.declared.After.{After}
 use Rattle.p3_key.specs.Process.{key_outcome, keyed}
 use Rattle.p4_note_line.specs.Line.{checked_number}
-use Rattle.p4_note_line.specs.declared.Checked.{Checked}
-use Rattle.p4_note_line.specs.declared.Checked.TheVariants as Checks
+use Rattle.p4_note_line.specs.declared.Report.{Report}
 use Rattle.p4_note_parts.specs.Parts.{part_taken, part_after, standing_answer}
-use Rattle.p4_note_parts.specs.State.{begun}
-use Rattle.p4_note_parts.specs.declared.Standing.{Standing}
-use Rattle.p4_note_parts.specs.declared.Standing.TheVariants as Standings
+use Rattle.p4_note_parts.specs.State.{Standing, begun, line_sound}
+use Rattle.p4_note_parts.specs.declared.Line.{Line}
+use Rattle.p4_note_parts.proofs.Soundness.{end_cases, sound_facts, part_sound}
 use Rattle.p4_note_parts.proofs.Cutting.{sound_answer}
 use Rattle.p4_spelling.specs.Answers.{cut_number, verdict_number}
-use Rattle.p4_spelling.specs.declared.Cut.{Cut}
-use Rattle.p4_spelling.specs.declared.Cut.TheVariants as Cuts
-use Rattle.p4_spelling.specs.declared.Verdict.{Verdict}
-use Rattle.p4_spelling.specs.declared.Verdict.TheVariants as Verdicts
+use Rattle.p4_spelling.specs.declared.CutPlaces.{CutPlaces}
 use Rattle.p6_bytes.specs.Bytes.{bytes_of, bytes_sound, composition_of}
 use Rattle.p6_composition.specs.Calls.{answer_on, bytes_on, out_on, key_on, removal_on, text_on, new_on, new_bytes}
 use Rattle.p6_draft.specs.Draft.{Reading}
 use Rattle.p6_draft_calls.specs.Calls.{read_on, read_bytes}
-use Rattle.p6_note_bytes.specs.Bytes.{line_size, line_bytes, line_of, line_bytes_sound}
+use Rattle.p4_spelling.specs.Verdict.{longest_length}
+use Rattle.p6_note_bytes.proofs.Reading.{kept_length}
+use Rattle.p6_note_bytes.specs.Bytes.{kept_start, line_size, line_bytes, line_of, line_bytes_sound}
 use Rattle.p6_note_bytes.specs.Calls.{line_begin_on, line_begin_bytes, line_part_on, line_part_bytes}
 use Rattle.p6_note_bytes.proofs.Kept.{bytes_line}
 use Rattle.p6_host.specs.CompositionCalls.{sound_code, sound_out}
@@ -71,18 +69,17 @@ module _ (a old : ℕ) where
   sound_kept b h = test_kept (bytes_sound b) 0 (number_of Unsound) a old (λ f. absurd (f refl)) h
 
 -- ---- a cut, and a verdict
-pub onset_kept : (g : Cut) (old : ℕ) → (cut_number g ≡ 0 → ⊥) → onset_out g old ≡ old
-onset_kept (Cuts.At p) old h = absurd (h refl)
-onset_kept (Cuts.Refused r) old h = refl
+pub onset_kept : (g : Result CutPlaces Refusal) (old : ℕ) → (cut_number g ≡ 0 → ⊥) → onset_out g old ≡ old
+onset_kept (Ok p) old h = absurd (h refl)
+onset_kept (Err r) old h = refl
 
-pub vowels_kept : (g : Cut) (old : ℕ) → (cut_number g ≡ 0 → ⊥) → vowels_out g old ≡ old
-vowels_kept (Cuts.At p) old h = absurd (h refl)
-vowels_kept (Cuts.Refused r) old h = refl
+pub vowels_kept : (g : Result CutPlaces Refusal) (old : ℕ) → (cut_number g ≡ 0 → ⊥) → vowels_out g old ≡ old
+vowels_kept (Ok p) old h = absurd (h refl)
+vowels_kept (Err r) old h = refl
 
-pub verdict_kept : (g : Verdict) (old : ℕ) → (verdict_number g ≡ 0 → ⊥) → verdict_out g old ≡ old
-verdict_kept Verdicts.Yes old h = absurd (h refl)
-verdict_kept Verdicts.No old h = absurd (h refl)
-verdict_kept (Verdicts.Refused r) old h = refl
+pub verdict_kept : (g : Result Bool Refusal) (old : ℕ) → (verdict_number g ≡ 0 → ⊥) → verdict_out g old ≡ old
+verdict_kept (Ok b) old h = absurd (h refl)
+verdict_kept (Err r) old h = refl
 
 -- ---- a line, and its state's bytes
 pub begin_kept : (b : List ℕ) → (refusal_of (line_begin_on b) ≡ 0 → ⊥) → line_begin_bytes b ≡ b
@@ -93,33 +90,37 @@ begin_kept b h = go (eqb (length b) line_size) h
     go true k = absurd (k refl)
     go false k = refl
 
+taken_sound : (b xs : List ℕ) → line_bytes_sound b ≡ true → line_sound (part_taken (line_of b) xs) ≡ true
+unfolding line_of
+taken_sound b xs e = part_sound (line_of b) xs (bytes_line b e) (kept_length longest_length b kept_start)
+
 -- "refusal 10 leaves the state too as it was", and is given for a state that is not sound alone
 pub part_kept : (b xs : List ℕ) → refusal_of (line_part_on b xs) ≡ number_of Unsound → (line_bytes_sound b ≡ false) × (line_part_bytes b xs ≡ b)
 unfolding line_part_on line_part_bytes
 part_kept b xs h = go (line_bytes_sound b) refl h
   where
-    never : (t : Standing) → refusal_of (standing_answer t) ≡ number_of Unsound → ⊥
-    never Standings.Going k = absurd (omega (arith, k))
-    never Standings.Foreign k = absurd (omega (arith, k))
-    never Standings.Long k = absurd (omega (arith, k))
+    never : (s : Line) → line_sound s ≡ true → refusal_of (standing_answer s.standing) ≡ number_of Unsound → ⊥
+    never s h =
+        end_cases (λ (t : Standing). refusal_of (standing_answer t) ≡ number_of Unsound → ⊥) s.standing s.length s.run
+        (λ k. omega (arith, k)) (λ k. omega (arith, k)) (λ e k. omega (arith, k)) (sound_facts s h).end
 
     go : (t : Bool) → line_bytes_sound b ≡ t → refusal_of (pick t (part_after (line_of b) xs).answer (Err Unsound)) ≡ number_of Unsound
         → (t ≡ false) × (pick t (line_bytes (part_after (line_of b) xs).line) b ≡ b)
-    go true e k = absurd (never (part_taken (line_of b) xs).standing (rw (sound_answer (line_of b) (bytes_line b e) xs) at k))
+    go true e k = absurd (never (part_taken (line_of b) xs) (taken_sound b xs e) (rw (sound_answer (line_of b) (bytes_line b e) xs) at k))
     go false e k = (refl, refl)
 
 module _ (old : ℕ) where
-  pub words_kept : (g : Checked) → (checked_number g ≡ 0 → ⊥) → words_out g old ≡ old
-  words_kept (Checks.Counted n) h = absurd (h refl)
-  words_kept (Checks.Refused r) h = refl
+  pub words_kept : (g : Result Report Refusal) → (checked_number g ≡ 0 → ⊥) → words_out g old ≡ old
+  words_kept (Ok n) h = absurd (h refl)
+  words_kept (Err r) h = refl
 
-  pub no_kept : (g : Checked) → (checked_number g ≡ 0 → ⊥) → no_out g old ≡ old
-  no_kept (Checks.Counted n) h = absurd (h refl)
-  no_kept (Checks.Refused r) h = refl
+  pub no_kept : (g : Result Report Refusal) → (checked_number g ≡ 0 → ⊥) → no_out g old ≡ old
+  no_kept (Ok n) h = absurd (h refl)
+  no_kept (Err r) h = refl
 
-  pub first_kept : (g : Checked) → (checked_number g ≡ 0 → ⊥) → first_out g old ≡ old
-  first_kept (Checks.Counted n) h = absurd (h refl)
-  first_kept (Checks.Refused r) h = refl
+  pub first_kept : (g : Result Report Refusal) → (checked_number g ≡ 0 → ⊥) → first_out g old ≡ old
+  first_kept (Ok n) h = absurd (h refl)
+  first_kept (Err r) h = refl
 
 -- ---- what every other call answers
 unless_kept : {A : Type 0} (g : Result ℕ Refusal) (old new : A) → (refusal_of g ≡ 0 → ⊥) → unless g old new ≡ old

@@ -1,22 +1,20 @@
 -- What C is told of a cut and of a verdict; a refusal leaves the lent places as they were.
-use Rattle.std.specs.Prelude.{ℕ}
-use Rattle.p4_spelling.specs.declared.Cut.{Cut}
-use Rattle.p4_spelling.specs.declared.Cut.TheVariants as Cuts
-use Rattle.p4_spelling.specs.declared.Verdict.{Verdict}
-use Rattle.p4_spelling.specs.declared.Verdict.TheVariants as Verdicts
+use Rattle.std.specs.Prelude.{ℕ, Bool, Result, Ok, Err}
+use Rattle.p0_choice.specs.Choice.{pick}
+use Rattle.p0_refusals.specs.declared.Refusal.{Refusal}
+use Rattle.p4_spelling.specs.declared.CutPlaces.{CutPlaces}
 
 -- where the onset ends
-abbrev pub onset_out : Cut → ℕ → ℕ
-onset_out (Cuts.At p) old = p.onset
-onset_out (Cuts.Refused r) old = old
+abbrev pub onset_out : Result CutPlaces Refusal → ℕ → ℕ
+onset_out (Ok p) old = p.onset
+onset_out (Err r) old = old
 
 -- where the vowels end
-abbrev pub vowels_out : Cut → ℕ → ℕ
-vowels_out (Cuts.At p) old = p.vowels
-vowels_out (Cuts.Refused r) old = old
+abbrev pub vowels_out : Result CutPlaces Refusal → ℕ → ℕ
+vowels_out (Ok p) old = p.vowels
+vowels_out (Err r) old = old
 
 -- yes is 1, no is 0
-abbrev pub verdict_out : Verdict → ℕ → ℕ
-verdict_out Verdicts.Yes old = 1
-verdict_out Verdicts.No old = 0
-verdict_out (Verdicts.Refused r) old = old
+abbrev pub verdict_out : Result Bool Refusal → ℕ → ℕ
+verdict_out (Ok b) old = pick b 1 0
+verdict_out (Err r) old = old

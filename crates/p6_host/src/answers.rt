@@ -4,7 +4,6 @@ ghost use Rattle.p0_refusals.specs.Answers.{refusal_of};
 ghost use Rattle.p6_host.specs.Counts.{count_out, behaviour_out};
 
 use p0_refusals::Refusal;
-use p0_refusals::{number};
 
 // The number of a refusal, or 0, and how much was done.
 pub fn tell(given: Result<usize, Refusal>, count: &mut usize) -> u32
@@ -25,11 +24,7 @@ pub fn tell_behaviour(given: Result<usize, Refusal>, behaviour: &mut u32) -> u32
 {
     match given {
         Ok(n) => {
-            if n == 0 {
-                *behaviour = 0;
-                return 0;
-            }
-            *behaviour = 1;
+            *behaviour = u32::from(n != 0);
             0
         }
         Err(refusal) => u32::from(refusal),

@@ -30,6 +30,7 @@ pub extern "C" fn pasdrongel_new(state: &mut [u8], method: u32) -> u32
 }
 
 #[unsafe(no_mangle)]
+#[tactic(auto, unfolding(crate::specs::CompositionCalls::sound_code))]
 pub extern "C" fn pasdrongel_check_composition(state: &[u8]) -> u32
     ensures { result ≡ sound_code state.now }
 {
@@ -40,53 +41,57 @@ pub extern "C" fn pasdrongel_check_composition(state: &[u8]) -> u32
 }
 
 #[unsafe(no_mangle)]
+#[tactic(auto, unfolding(crate::specs::CompositionCalls::sound_code, crate::specs::CompositionCalls::sound_out))]
 pub extern "C" fn pasdrongel_method(state: &[u8], method: &mut u32) -> u32
     ensures { (result ≡ sound_code state.now)
         × (method.new ≡ sound_out state.now (method_byte (composition_of state.now).settings.method)
         method.old) }
 {
-    if !p6_bytes::bytes_ok(state) {
+    let Some(composition) = p6_bytes::checked(state) else {
         return u32::from(Refusal::Unsound);
-    }
-    *method = p6_bytes::method_number(state);
+    };
+    *method = p6_bytes::method_number(composition);
     0
 }
 
 #[unsafe(no_mangle)]
+#[tactic(auto, unfolding(crate::specs::CompositionCalls::sound_code, crate::specs::CompositionCalls::sound_out))]
 pub extern "C" fn pasdrongel_mode(state: &[u8], mode: &mut u32) -> u32
     ensures { (result ≡ sound_code state.now)
         × (mode.new ≡ sound_out state.now (mode_byte (composition_of state.now).settings.mode)
         mode.old) }
 {
-    if !p6_bytes::bytes_ok(state) {
+    let Some(composition) = p6_bytes::checked(state) else {
         return u32::from(Refusal::Unsound);
-    }
-    *mode = p6_bytes::mode_number(state);
+    };
+    *mode = p6_bytes::mode_number(composition);
     0
 }
 
 #[unsafe(no_mangle)]
+#[tactic(auto, unfolding(crate::specs::CompositionCalls::sound_code, crate::specs::CompositionCalls::sound_out))]
 pub extern "C" fn pasdrongel_capitals(state: &[u8], on: &mut u32) -> u32
     ensures { (result ≡ sound_code state.now)
         × (on.new ≡ sound_out state.now (flag_byte (composition_of state.now).settings.capitals)
         on.old) }
 {
-    if !p6_bytes::bytes_ok(state) {
+    let Some(composition) = p6_bytes::checked(state) else {
         return u32::from(Refusal::Unsound);
-    }
-    *on = p6_bytes::capitals_number(state);
+    };
+    *on = p6_bytes::capitals_number(composition);
     0
 }
 
 #[unsafe(no_mangle)]
+#[tactic(auto, unfolding(crate::specs::CompositionCalls::sound_code, crate::specs::CompositionCalls::sound_out))]
 pub extern "C" fn pasdrongel_count(state: &[u8], count: &mut usize) -> u32
     ensures { (result ≡ sound_code state.now)
         × (count.new ≡ sound_out state.now (composition_of state.now).count count.old) }
 {
-    if !p6_bytes::bytes_ok(state) {
+    let Some(composition) = p6_bytes::checked(state) else {
         return u32::from(Refusal::Unsound);
-    }
-    *count = p6_bytes::cell_count(state);
+    };
+    *count = p6_bytes::cell_count(composition);
     0
 }
 

@@ -5,46 +5,49 @@ ghost use Rattle.p6_bytes.specs.Bytes.{method_of};
 ghost use Rattle.p6_host.specs.LetterCalls.{flag_of};
 ghost use Rattle.p6_host.specs.MethodCalls.{key_code, key_out, mark_code, mark_out};
 
-use crate::letters::{flag, give};
+use crate::letters::give;
 use p0_refusals::Refusal;
-use p6_composition::method_of;
+use p2_input_method::InputMethod;
 
 #[unsafe(no_mangle)]
+#[tactic(auto, using(crate::proofs::MethodCalls::no_key_code, crate::proofs::MethodCalls::no_key_out, crate::proofs::MethodCalls::key_code_lem, crate::proofs::MethodCalls::tone_key_out))]
 pub extern "C" fn pasdrongel_is_tone_key(method: u32, key: u32, yes: &mut u32) -> u32
     ensures { (result ≡ key_code method key)
         × (yes.new ≡ key_out method key (flag_of (is_tone_key (method_of method) key)) yes.old) }
 {
-    if 1 < method {
-        return u32::from(Refusal::Unsound);
-    }
-    let m = method_of(method);
-    give(key, flag(p2_input_method::is_tone_key(m, key)), yes)
+    let m = match InputMethod::try_from(method) {
+        Ok(m) => m,
+        Err(refusal) => return u32::from(refusal),
+    };
+    give(key, u32::from(p2_input_method::is_tone_key(m, key)), yes)
 }
 
 #[unsafe(no_mangle)]
+#[tactic(auto, using(crate::proofs::MethodCalls::no_key_code, crate::proofs::MethodCalls::no_key_out, crate::proofs::MethodCalls::key_code_lem, crate::proofs::MethodCalls::horn_key_out))]
 pub extern "C" fn pasdrongel_is_horn_key(method: u32, key: u32, yes: &mut u32) -> u32
     ensures { (result ≡ key_code method key)
         × (yes.new ≡ key_out method key (flag_of (is_horn_key (method_of method) key)) yes.old) }
 {
-    if 1 < method {
-        return u32::from(Refusal::Unsound);
-    }
-    let m = method_of(method);
-    give(key, flag(p2_input_method::is_horn_key(m, key)), yes)
+    let m = match InputMethod::try_from(method) {
+        Ok(m) => m,
+        Err(refusal) => return u32::from(refusal),
+    };
+    give(key, u32::from(p2_input_method::is_horn_key(m, key)), yes)
 }
 
 #[unsafe(no_mangle)]
+#[tactic(auto, using(crate::proofs::MethodCalls::no_mark_code, crate::proofs::MethodCalls::no_mark_out, crate::proofs::MethodCalls::mark_foreign, crate::proofs::MethodCalls::mark_foreign_out, crate::proofs::MethodCalls::mark_code_lem, crate::proofs::MethodCalls::mark_out_lem))]
 pub extern "C" fn pasdrongel_mark_for(method: u32, base: u32, key: u32, mark: &mut u32) -> u32
     ensures { (result ≡ mark_code method base key)
         × (mark.new ≡ mark_out method base key (mark_for (method_of method) base key) mark.old) }
 {
-    if 1 < method {
-        return u32::from(Refusal::Unsound);
-    }
+    let m = match InputMethod::try_from(method) {
+        Ok(m) => m,
+        Err(refusal) => return u32::from(refusal),
+    };
     if p1_letters::in_alphabet(base) {
-        let m = method_of(method);
         let found = p2_input_method::mark_for(m, base, key);
-        return give(key, found as u32, mark);
+        return give(key, u32::from(found.unwrap_or(0)), mark);
     }
     u32::from(Refusal::Foreign)
 }

@@ -7,17 +7,8 @@ ghost use Rattle.p6_host.specs.LetterCalls.{letter_code, letter_out, tone_code, 
 
 use p0_refusals::Refusal;
 
-// A yes or no, for C.
-pub fn flag(yes: bool) -> u32
-    ensures { result ≡ flag_of yes }
-{
-    if yes {
-        return 1;
-    }
-    0
-}
-
 #[unsafe(no_mangle)]
+#[tactic(auto, unfolding(crate::specs::LetterCalls::letter_code))]
 pub extern "C" fn pasdrongel_check_letter(letter: u32) -> u32
     ensures { result ≡ letter_code letter }
 {
@@ -28,6 +19,7 @@ pub extern "C" fn pasdrongel_check_letter(letter: u32) -> u32
 }
 
 // Writes an answer about a letter, unless the letter is foreign.
+#[tactic(auto, unfolding(crate::specs::LetterCalls::letter_code, crate::specs::LetterCalls::letter_out))]
 pub fn give(letter: u32, answer: u32, place: &mut u32) -> u32
     ensures { (result ≡ letter_code letter) × (place.new ≡ letter_out letter answer place.old) }
 {
@@ -56,24 +48,25 @@ pub extern "C" fn pasdrongel_upper(letter: u32, capital: &mut u32) -> u32
 pub extern "C" fn pasdrongel_is_capital(letter: u32, yes: &mut u32) -> u32
     ensures { (result ≡ letter_code letter) × (yes.new ≡ letter_out letter (flag_of (is_capital letter)) yes.old) }
 {
-    give(letter, flag(p1_letters::is_capital(letter)), yes)
+    give(letter, u32::from(p1_letters::is_capital(letter)), yes)
 }
 
 #[unsafe(no_mangle)]
 pub extern "C" fn pasdrongel_is_white_space(letter: u32, yes: &mut u32) -> u32
     ensures { (result ≡ letter_code letter) × (yes.new ≡ letter_out letter (flag_of (is_white_space letter)) yes.old) }
 {
-    give(letter, flag(p1_letters::is_white_space(letter)), yes)
+    give(letter, u32::from(p1_letters::is_white_space(letter)), yes)
 }
 
 #[unsafe(no_mangle)]
 pub extern "C" fn pasdrongel_is_separator(letter: u32, yes: &mut u32) -> u32
     ensures { (result ≡ letter_code letter) × (yes.new ≡ letter_out letter (flag_of (is_separator letter)) yes.old) }
 {
-    give(letter, flag(p1_letters::is_separator(letter)), yes)
+    give(letter, u32::from(p1_letters::is_separator(letter)), yes)
 }
 
 #[unsafe(no_mangle)]
+#[tactic(auto, unfolding(crate::specs::LetterCalls::letter_code, crate::specs::LetterCalls::letter_out, crate::specs::LetterCalls::tone_code, crate::specs::LetterCalls::tone_out))]
 pub extern "C" fn pasdrongel_tone_on(letter: u32, tone: u32, toned: &mut u32) -> u32
     ensures { (result ≡ tone_code letter tone) × (toned.new ≡ tone_out letter tone (tone_on letter tone) toned.old) }
 {
@@ -94,12 +87,16 @@ pub extern "C" fn pasdrongel_tone_off(letter: u32, plain: &mut u32) -> u32
 pub extern "C" fn pasdrongel_is_composer_vowel(letter: u32, yes: &mut u32) -> u32
     ensures { (result ≡ letter_code letter) × (yes.new ≡ letter_out letter (flag_of (is_vowel letter)) yes.old) }
 {
-    give(letter, flag(p1_letters::is_vowel(letter)), yes)
+    give(letter, u32::from(p1_letters::is_vowel(letter)), yes)
 }
 
 #[unsafe(no_mangle)]
 pub extern "C" fn pasdrongel_is_speller_vowel(letter: u32, yes: &mut u32) -> u32
     ensures { (result ≡ letter_code letter) × (yes.new ≡ letter_out letter (flag_of (is_spelling_vowel letter)) yes.old) }
 {
-    give(letter, flag(p1_letters::is_spelling_vowel(letter)), yes)
+    give(
+        letter,
+        u32::from(p1_letters::is_spelling_vowel(letter)),
+        yes,
+    )
 }

@@ -5,22 +5,27 @@ ghost use Rattle.p4_note_line.specs.Line.{line_answer, checked_number};
 ghost use Rattle.p6_note_bytes.specs.Calls.{line_begin_on, line_begin_bytes, line_part_on, line_part_bytes, line_answer_on};
 ghost use Rattle.p6_host.specs.LineCalls.{words_out, no_out, first_out};
 
-use p0_refusals::refusal_of;
-use p4_note_line::Checked;
+use p0_refusals::{Refusal, refusal_of};
+use p4_note_line::Report;
 
 // The numbers of a line's refusal and counts.
-fn tell_checked(given: Checked, words: &mut usize, no: &mut usize, first: &mut usize) -> u32
+fn tell_checked(
+    given: Result<Report, Refusal>,
+    words: &mut usize,
+    no: &mut usize,
+    first: &mut usize,
+) -> u32
     ensures { (result ≡ checked_number given) × (words.new ≡ words_out given words.old)
         × (no.new ≡ no_out given no.old) × (first.new ≡ first_out given first.old) }
 {
     match given {
-        Checked::Counted(counts) => {
+        Ok(counts) => {
             *words = counts.words;
             *no = counts.noes;
             *first = counts.first;
             0
         }
-        Checked::Refused(refusal) => u32::from(refusal),
+        Err(refusal) => u32::from(refusal),
     }
 }
 

@@ -3,36 +3,33 @@ ghost use Rattle.std.specs.Prelude.{◌≡◌};
 ghost use Rattle.p4_spelling.specs.Answers.{cut_number, verdict_number, cut_answer, verdict_answer};
 ghost use Rattle.p6_host.specs.SpellerCalls.{onset_out, vowels_out, verdict_out};
 
-use p4_spelling::{Cut, Verdict};
+use p0_refusals::Refusal;
+use p4_spelling::CutPlaces;
 
 // The numbers of a cut's refusal and places.
-fn tell_cut(given: Cut, onset: &mut usize, vowels: &mut usize) -> u32
+fn tell_cut(given: Result<CutPlaces, Refusal>, onset: &mut usize, vowels: &mut usize) -> u32
     ensures { (result ≡ cut_number given) × (onset.new ≡ onset_out given onset.old)
         × (vowels.new ≡ vowels_out given vowels.old) }
 {
     match given {
-        Cut::At(places) => {
+        Ok(places) => {
             *onset = places.onset;
             *vowels = places.vowels;
             0
         }
-        Cut::Refused(refusal) => u32::from(refusal),
+        Err(refusal) => u32::from(refusal),
     }
 }
 
-fn tell_verdict(given: Verdict, yes: &mut u32) -> u32
+fn tell_verdict(given: Result<bool, Refusal>, yes: &mut u32) -> u32
     ensures { (result ≡ verdict_number given) × (yes.new ≡ verdict_out given yes.old) }
 {
     match given {
-        Verdict::Yes => {
-            *yes = 1;
+        Ok(accepted) => {
+            *yes = u32::from(accepted);
             0
         }
-        Verdict::No => {
-            *yes = 0;
-            0
-        }
-        Verdict::Refused(refusal) => u32::from(refusal),
+        Err(refusal) => u32::from(refusal),
     }
 }
 

@@ -1,25 +1,26 @@
-use borrow.Author.Rules.{rules}
-use Rattle.p4_note_line.proofs.Words.{gap_next, gap_last, gap_before_lem, word_yes, word_first_no, word_no}
+use Rattle.std.proofs.Common.{arith}
+use Rattle.p4_note_line.proofs.Words.{left_length, gap_next, gap_last, gap_begins, gap_counts, word_next, word_some, word_counts}
 use Rattle.p4_note_line.proofs.+gap_word.Goals as goal
-
-ruleset answers = (rules, gap_next, gap_last, word_yes, word_first_no, word_no)
-
-pub gap-returns-then-next-line : goal.gap-returns-then-next-line
-gap-returns-then-next-line t c = search answers
 
 pub gap-word-requires : goal.gap-word-requires
 gap-word-requires t c =
-    let e = c.gap_end-next.ensures in
-    (search rules, (search rules, search rules, search rules, gap_before_lem _ 0 _ _ 0 e.0 e.2 c.if-next-line.false))
+    let e = c.gap_run-run.ensures.value in
+    let l = left_length c.args.rest.now c.gap_run-run.result c.gap_run-run.ensures.within in
+    (omega (arith, l), (gap_counts _ _ _ _ e c.requires, gap_begins _ 0 _ c.args.told.now e c.if-run-rest.true))
 
-pub gap-returns : goal.gap-returns
-gap-returns t c = search answers
+pub gap-returns-then-run-rest : goal.gap-returns-then-run-rest
+gap-returns-then-run-rest t c = gap_next _ _ _ _ c.gap_run-run.ensures.value _ c.word.ensures
 
-pub word-returns-then-accepts : goal.word-returns-then-accepts
-word-returns-then-accepts t c = search answers
+pub gap-returns-else-run-rest : goal.gap-returns-else-run-rest
+gap-returns-else-run-rest t c = gap_last _ _ _ _ c.gap_run-run.ensures.value c.if-run-rest.false
 
-pub word-returns-then-tally-lt65536 : goal.word-returns-then-tally-lt65536
-word-returns-then-tally-lt65536 t c = search answers
+pub word-gap-requires : goal.word-gap-requires
+word-gap-requires t c =
+    let e = c.word_run-run.ensures.value in
+    let m = word_some _ 0 _ c.args.told.now c.requires.begins e in
+    let l = left_length c.args.rest.now c.word_run-run.result c.word_run-run.ensures.within in
+    (omega (arith, l, m), word_counts _ _ _ _ c.requires.begins e _ _ c.add.ensures c.requires.room)
 
 pub word-returns : goal.word-returns
-word-returns t c = search answers
+word-returns t c =
+    word_next _ _ _ _ c.requires.begins c.word_run-run.ensures.value _ _ _ c.accepts-yes.ensures c.add.ensures c.gap.ensures
