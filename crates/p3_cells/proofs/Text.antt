@@ -80,14 +80,16 @@ pub text_more : (k : Bool) (xs : List Cell) (o out : List ℕ) (i v : ℕ) → o
 unfolding text_of
 text_more k xs o out i v e q h l = rw (e, q, add-one i) (map_more (shown k) xs o i h l)
 
-pub text_done : (c : Composition) (o out : List ℕ) (i : ℕ) → out ≡ text_of c.settings.capitals (take i (take c.count c.cells)) ++ drop i o
+pub text_done : (c : Composition) (o out : List ℕ) (i : ℕ)
+    → out ≡ text_of c.settings.capitals (take i (take c.count c.cells)) ++ drop i o
     → length c.cells ≡ limit → c.count ≤ limit → i ≤ length (take c.count c.cells) → length (take c.count c.cells) ≤ i
     → out ≡ text_of c.settings.capitals (used c) ++ drop c.count o
 unfolding used
 text_done c o out i e n h l m =
     let d : length (take c.count c.cells) ≡ c.count = length-take-le c.count c.cells (omega arith) in
     let j : i ≡ c.count = omega arith in
-    let t : take c.count (take c.count c.cells) ≡ take c.count c.cells = ap (λ (n : ℕ). take n (take c.count c.cells)) (sym d) ∙ take-length (take c.count c.cells) in
+    let t : take c.count (take c.count c.cells) ≡ take c.count c.cells
+    = ap (λ (n : ℕ). take n (take c.count c.cells)) (sym d) ∙ take-length (take c.count c.cells) in
     e ∙ rw (j, t) refl
 
 -- the length of an array of structs, from that of its list under a map

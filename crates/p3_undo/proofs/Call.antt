@@ -7,7 +7,7 @@ use mathlib.Core.List.{List}
 use lib.ListN.{length}
 use borrow.Author.Tests.{lt-ltb, le-ltb, not-true, not-false}
 use Rattle.p0_refusals.specs.Limits.{letter_limit}
-use Rattle.p0_refusals.specs.declared.Refusal.TheVariants.{Foreign, NoUndo, Long, Unsound}
+use Rattle.p0_refusals.specs.declared.Refusal.TheVariants.{Foreign, NoUndo, Long}
 use Rattle.p1_letters.specs.Alphabet.{in_alphabet, all_letters, ascii_lower}
 use Rattle.p2_input_method.specs.declared.MarkRule.{MarkRule}
 use Rattle.p3_cells.specs.Cells.{is_sound, used}
@@ -52,10 +52,6 @@ module _ (c : Composition) (raw : List ℕ) (t : ℕ) (o : Option Undoing) (s : 
 
 -- ---- the refusals
 module _ (c : Composition) (k : ℕ) (raw : List ℕ) (r : Undone) (s : Bool) (e : s ≡ is_sound c) where
-  pub undo_unsound : not s ≡ true → r ≡ not_undone c Unsound → r ≡ undo_telex c k raw
-  unfolding undo_telex
-  undo_unsound h q = rw (← e, not-true s h) q
-
   module _ (h : not s ≡ false) where
     pub undo_long : letter_limit < length raw → r ≡ not_undone c Long → r ≡ undo_telex c k raw
     unfolding undo_telex

@@ -11,6 +11,7 @@ use lib.Dec.{ltb}
 use lib.ListN.{length, get_or, take, drop, set, length-map, get_or-map}
 use lib.Seq.{take-suc, take-suc-set}
 use borrow.Author.Tests.{ltb-true}
+use Rattle.std.proofs.lemmas.List.{length-take-le, get_or-take}
 use Rattle.p0_choice.specs.Choice.{each, among}
 use Rattle.p0_choice.specs.Text.{word}
 use Rattle.p0_choice.proofs.Tables.{each_among}
@@ -44,6 +45,13 @@ signed_more c row i n v x e p q h k l =
     let a : i < length row = omega arith in
     let b : i < places c = omega arith in
     rw (add-one i, take-suc-set row i v a, take-suc c.cells i blank b, map-append sign (first_cells c i) (cell_of c i ∷ []), e, q, p) refl
+
+-- a cell of those in use
+pub signed_front : (c : Composition) (row : List ℕ) (i v : ℕ) → Signed c row i → v ≡ sign (get_or (take c.count c.cells) i blank)
+    → i < length (take c.count c.cells) → c.count ≤ places c → c.count ≤ length row → Signed c (set row i v) (i + 1)
+signed_front c row i v p q h k l =
+    let n : length (take c.count c.cells) ≡ c.count = length-take-le c.count c.cells k in
+    signed_more c row i c.count v (get_or (take c.count c.cells) i blank) p (get_or-take c.count c.cells i blank (omega arith)) q (omega arith) l k
 
 pub signed_all : (c : Composition) (row : List ℕ) (i n : ℕ) → Signed c row i → i ≤ n → n ≤ i → take n row ≡ signs (first_cells c n)
 unfolding Signed
@@ -117,3 +125,10 @@ unfolding used
 row_finds c s m row part raw t u p f g h =
     let d : c.count - 0 ≡ c.count = omega arith in
     h ∙ rw (p, g, d, f) (undo_same (used c) (used_cells c s) c.settings.method raw t)
+
+pub row_found : (c : Composition) → is_sound c ≡ true → (row raw : List ℕ) (t : ℕ) (u : Option Undoing)
+    → take c.count row ≡ signs (first_cells c c.count) → u ≡ to_undo c.settings.method (sign_cells (take c.count row)) raw t
+    → u ≡ to_undo c.settings.method (used c) raw t
+row_found c s row raw t u f h =
+    let d : c.count - 0 ≡ c.count = omega arith in
+    row_finds c s c.settings.method row (take c.count row) raw t u refl f (rw d refl) h

@@ -2,16 +2,16 @@
 // in a lent row of the cells' signs, and stored at one place.
 #![tactic(auto)]
 
-ghost use Rattle.std.specs.Prelude.{◌≡◌, true, ◌<◌, ◌≤◌, ◌+◌, length, get_or, drop};
+ghost use Rattle.std.specs.Prelude.{◌≡◌, true, ◌<◌, ◌≤◌, ◌-◌, length};
 ghost use Rattle.p0_choice.specs.Choice.{among};
 ghost use Rattle.p0_choice.specs.Text.{word};
 ghost use Rattle.p2_input_method.specs.Rules.{mark_rules};
 ghost use Rattle.p2_input_method.specs.declared.InputMethod.TheVariants.{Telex};
 ghost use Rattle.p3_cells.specs.Cells.{is_sound, used};
-ghost use Rattle.p3_undo.specs.Raw.{raw_lowered, ends_in, pair_at, last_end, any_plain, active};
+ghost use Rattle.p3_undo.specs.Raw.{raw_lowered, ends_in, pair_at, any_plain, active};
 ghost use Rattle.p3_undo.specs.Undo.{last_with, has_tone, has_mark, rule_at, by_rules, tone_at, to_undo, tone_lost as toneless_of};
 ghost use Rattle.p3_undo.specs.Undo.{restored as restored_of};
-ghost use Rattle.p3_undo.specs.Mirror.{sign as sign_of, bearing, sign_cells};
+ghost use Rattle.p3_undo.specs.Mirror.{sign as sign_of, bearing, sign_cells, end_found};
 ghost use Rattle.p3_undo.specs.Call.{behaviour as behaviour_of, not_undone, undo_found, undo_telex};
 
 use p0_refusals::{LETTERS, Refusal};
@@ -41,115 +41,96 @@ pub enum Undoing {
     Mark(usize, MarkRule),
 }
 
+// Where the tone of a cell stands in its sign; its mark stands at 1.
+const TONE_AT: u32 = 1 << 16;
+
 // ---- the raw string
 
-fn low_at(raw: &[u32], i: usize) -> u32
-    requires { i < length raw.now }
-    ensures { result ≡ get_or (raw_lowered raw.now) i 0 }
-{
-    let x = raw[i];
-    letters::ascii_lower(x)
-}
-
+#[tactic(auto, using(crate::proofs::Raw::lowered_ends))]
 fn ends_in(raw: &[u32], t: u32) -> bool
     ensures { result ≡ ends_in (raw_lowered raw.now) t }
 {
-    let n = raw.len();
-    if n == 0 {
-        return false;
+    match raw.last() {
+        Some(x) => letters::ascii_lower(*x) == t,
+        None => false,
     }
-    low_at(raw, n - 1) == t
 }
 
+// a stands before place i, and t there.
+#[tactic(auto, using(crate::proofs::Raw::pair_turn))]
 fn pair_at(raw: &[u32], a: u32, t: u32, i: usize) -> bool
-    requires { i + 1 < length raw.now }
-    ensures { result ≡ pair_at (raw_lowered raw.now) a t i }
+    requires { (1 ≤ i) × (i < length raw.now) }
+    ensures { result ≡ pair_at (raw_lowered raw.now) a t (i - 1) }
 {
-    if low_at(raw, i) != a {
-        return false;
-    }
-    low_at(raw, i + 1) == t
+    letters::ascii_lower(raw[i - 1]) == a && letters::ascii_lower(raw[i]) == t
 }
 
-fn last_end(raw: &[u32], a: u32, t: u32) -> usize
-    ensures { (result ≡ last_end (raw_lowered raw.now) a t (length raw.now)) × (result ≤ length raw.now) }
+// Where the last a, t ends.
+#[tactic(auto, using(crate::proofs::Raw::end_turn, crate::proofs::Raw::end_first, crate::proofs::Raw::end_none))]
+fn last_end(raw: &[u32], a: u32, t: u32) -> Option<usize>
+    ensures { result ≡ end_found (raw_lowered raw.now) a t }
 {
-    let mut i = raw.len();
-    while 1 < i {
-        i -= 1;
-        if pair_at(raw, a, t, i - 1) {
-            return i + 1;
+    for i in (1..raw.len()).rev() {
+        if pair_at(raw, a, t, i) {
+            return Some(i + 1);
         }
     }
-    0
+    None
 }
 
+#[tactic(auto, unfolding(p0_choice::specs::Text::word))]
 fn is_plain(x: u32) -> bool
     ensures { result ≡ among x (word "aeiouy") }
 {
-    match x {
-        97 | 101 | 105 | 111 | 117 | 121 => true,
-        _ => false,
-    }
+    matches!(x, 97 | 101 | 105 | 111 | 117 | 121)
 }
 
-fn any_plain(raw: &[u32], from: usize) -> bool
-    requires { from ≤ length raw.now }
-    ensures { result ≡ any_plain (drop from (raw_lowered raw.now)) }
+fn any_plain(raw: &[u32]) -> bool
+    ensures { result ≡ any_plain (raw_lowered raw.now) }
 {
-    let mut i = from;
-    while i < raw.len() {
-        let x = low_at(raw, i);
-        if is_plain(x) {
-            return true;
-        }
-        i += 1;
-    }
-    false
+    raw.iter().any(|x| is_plain(letters::ascii_lower(*x)))
 }
 
+#[tactic(auto, using(crate::proofs::Raw::end_within, crate::proofs::Raw::active_none, crate::proofs::Raw::active_some))]
 fn has_active_mark_pattern(raw: &[u32], a: u32, t: u32) -> bool
     ensures { result ≡ active (raw_lowered raw.now) a t }
 {
-    let e = last_end(raw, a, t);
-    if e == 0 {
-        return false;
+    match last_end(raw, a, t) {
+        Some(end) => !any_plain(&raw[end..]),
+        None => false,
     }
-    !any_plain(raw, e)
 }
 
 // ---- the cells: what undo asks of them, as a row of their signs
 
+// A sign is one number: 4 bytes a cell, where a row of cells would take the 768 bytes that a call may have of the stack.
+#[tactic(auto, unfolding(crate::specs::Mirror::sign))]
 pub fn sign(x: Cell) -> u32
     ensures { result ≡ sign_of x }
 {
-    (x.mark as u32) + (x.tone as u32) * 65536
+    u32::from(x.mark) + u32::from(x.tone) * TONE_AT
 }
 
+#[tactic(auto, unfolding(crate::specs::Undo::has_tone))]
 fn has_tone(t: u32, s: u32) -> bool
     ensures { result ≡ has_tone t (bearing s) }
 {
-    if t == 0 {
-        return false;
-    }
-    s / 65536 == t
+    t != 0 && s / TONE_AT == t
 }
 
+// With no tone beside it a mark is the whole sign.
+#[tactic(auto, unfolding(crate::specs::Undo::has_mark))]
 fn has_mark(m: u16, s: u32) -> bool
     ensures { result ≡ has_mark m (bearing s) }
 {
-    if s % 65536 != m as u32 {
-        return false;
-    }
-    s / 65536 == 0
+    s == u32::from(m)
 }
 
+#[tactic(auto, using(crate::proofs::Undo::with_turn, crate::proofs::Undo::with_none))]
 fn last_toned(row: &[u32], t: u32) -> Option<usize>
     ensures { result ≡ last_with (has_tone t) (sign_cells row.now) (length row.now) }
 {
-    let mut i = row.len();
-    while 0 < i {
-        i -= 1;
+    for i in (0..row.len()).rev() {
         if has_tone(t, row[i]) {
             return Some(i);
         }
@@ -157,12 +138,11 @@ fn last_toned(row: &[u32], t: u32) -> Option<usize>
     None
 }
 
+#[tactic(auto, using(crate::proofs::Undo::with_turn, crate::proofs::Undo::with_none))]
 fn last_marked(row: &[u32], m: u16) -> Option<usize>
     ensures { result ≡ last_with (has_mark m) (sign_cells row.now) (length row.now) }
 {
-    let mut i = row.len();
-    while 0 < i {
-        i -= 1;
+    for i in (0..row.len()).rev() {
         if has_mark(m, row[i]) {
             return Some(i);
         }
@@ -172,16 +152,15 @@ fn last_marked(row: &[u32], m: u16) -> Option<usize>
 
 // ---- what is to be undone
 
+#[tactic(auto, using(crate::proofs::Signs::row_length), unfolding(crate::specs::Undo::rule_at))]
 fn rule_at(row: &[u32], raw: &[u32], t: u32, r: MarkRule) -> Option<usize>
     ensures { result ≡ rule_at (sign_cells row.now) (raw_lowered raw.now) t r }
 {
-    if r.key != t {
-        return None;
+    if r.key == t && has_active_mark_pattern(raw, r.first, r.key) {
+        last_marked(row, r.result)
+    } else {
+        None
     }
-    if !has_active_mark_pattern(raw, r.first, r.key) {
-        return None;
-    }
-    last_marked(row, r.result)
 }
 
 #[tactic(auto, using(crate::proofs::Undo::rules_end, crate::proofs::Undo::rules_found, crate::proofs::Undo::rules_on))]
@@ -196,90 +175,73 @@ fn by_rules(row: &[u32], raw: &[u32], t: u32) -> Option<Undoing>
     None
 }
 
+#[tactic(auto, using(crate::proofs::Signs::row_length), unfolding(crate::specs::Undo::tone_at))]
 fn tone_at(row: &[u32], raw: &[u32], t: u32) -> Option<usize>
     ensures { result ≡ tone_at (sign_cells row.now) (raw_lowered raw.now) t }
 {
-    if !ends_in(raw, t) {
-        return None;
+    if ends_in(raw, t) {
+        last_toned(row, t)
+    } else {
+        None
     }
-    last_toned(row, t)
 }
 
 // Over the signs of the cells in use, which a caller fills in from where it holds them.
+#[tactic(auto, unfolding(crate::specs::Undo::to_undo))]
 pub fn to_undo(m: InputMethod, row: &[u32], raw: &[u32], t: u32) -> Option<Undoing>
     ensures { result ≡ to_undo m (sign_cells row.now) (raw_lowered raw.now) t }
 {
-    if let InputMethod::Vni = m {
-        return None;
+    match m {
+        InputMethod::Telex => match tone_at(row, raw, t) {
+            Some(i) => Some(Undoing::Tone(i)),
+            None => by_rules(row, raw, t),
+        },
+        InputMethod::Vni => None,
     }
-    let p = tone_at(row, raw, t);
-    if let Some(i) = p {
-        return Some(Undoing::Tone(i));
-    }
-    by_rules(row, raw, t)
 }
 
 // ---- the call
 
+#[tactic(auto, unfolding(crate::specs::Undo::tone_lost))]
 pub fn tone_lost(x: Cell) -> Cell
     ensures { result ≡ toneless_of x }
 {
-    Cell {
-        base: x.base,
-        mark: x.mark,
-        tone: 0,
-        upper: x.upper,
-    }
+    Cell { tone: 0, ..x }
 }
 
+#[tactic(auto, unfolding(crate::specs::Undo::restored))]
 pub fn restored(a: u32, x: Cell) -> Cell
     ensures { result ≡ restored_of a x }
 {
-    if !x.upper {
-        return Cell {
-            base: a,
-            mark: 0,
-            tone: x.tone,
-            upper: x.upper,
-        };
-    }
-    let b = letters::ascii_upper(a);
     Cell {
-        base: b,
+        base: if x.upper { letters::ascii_upper(a) } else { a },
         mark: 0,
-        tone: x.tone,
-        upper: x.upper,
+        ..x
     }
 }
 
 // dd consumes its trigger, the others append it.
+#[tactic(auto, unfolding(crate::specs::Call::behaviour))]
 pub fn behaviour(rule: MarkRule) -> TelexUndo
     ensures { result ≡ behaviour_of rule }
 {
-    if rule.first != 100 {
-        return TelexUndo::AppendTrigger;
+    if rule.first == 100 && rule.key == 100 {
+        TelexUndo::ConsumeTrigger
+    } else {
+        TelexUndo::AppendTrigger
     }
-    if rule.key != 100 {
-        return TelexUndo::AppendTrigger;
-    }
-    TelexUndo::ConsumeTrigger
 }
 
+#[tactic(auto, using(p3_cells::proofs::Holding::count_fits))]
 fn find(c: Composition, raw: &[u32], t: u32) -> Option<Undoing>
     requires { is_sound c ≡ true }
     ensures { result ≡ to_undo c.settings.method (used c) (raw_lowered raw.now) t }
 {
-    let n = c.count;
-    let mut row = [0u32; LIMIT];
-    let mut at: usize = 0;
-    while at < n {
-        let x = c.cells[at];
-        row[at] = sign(x);
-        at += 1;
+    let mut row = [0; LIMIT];
+    for (i, cell) in c.cells[..c.count].iter().enumerate() {
+        row[i] = sign(*cell);
     }
-    let z = c.settings;
-    let m = z.method;
-    to_undo(m, &row[0..n], raw, t)
+    to_undo(c.settings.method, &row[..c.count], raw, t)
 }
 
 // Stores what is found.
@@ -317,6 +279,7 @@ fn refuse(c: Composition, why: Refusal) -> Undone
     }
 }
 
+#[tactic(auto, unfolding(crate::specs::Call::undo_telex))]
 pub fn undo_telex_transform(c: Composition, trigger: u32, raw: &[u32]) -> Undone
     ensures { result ≡ undo_telex c trigger raw.now }
 {
@@ -326,12 +289,8 @@ pub fn undo_telex_transform(c: Composition, trigger: u32, raw: &[u32]) -> Undone
     if LETTERS < raw.len() {
         return refuse(c, Refusal::Long);
     }
-    if !letters::in_alphabet(trigger) {
+    if !letters::in_alphabet(trigger) || !letters::all_letters(raw) {
         return refuse(c, Refusal::Foreign);
     }
-    if !letters::all_letters(raw) {
-        return refuse(c, Refusal::Foreign);
-    }
-    let t = letters::ascii_lower(trigger);
-    undo_found(c, raw, t)
+    undo_found(c, raw, letters::ascii_lower(trigger))
 }

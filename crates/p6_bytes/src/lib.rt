@@ -103,7 +103,7 @@ fn cells_fit(b: &[u8; SIZE], n: usize) -> bool
     (0..n).all(|i| cell_fits(b, i))
 }
 
-pub fn is_sound(b: &[u8; SIZE]) -> bool
+fn is_sound(b: &[u8; SIZE]) -> bool
     ensures { result ≡ bytes_sound b.now }
 {
     let n = usize::from(b[2]);

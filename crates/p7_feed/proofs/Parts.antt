@@ -1,12 +1,13 @@
 -- A part of the input byte by byte: what is left of it decides.
-use Prim.Native.Nat.{ℕ, ◌+◌, ◌<◌, ◌≤◌}
+use Prim.Native.Nat.{ℕ, ◌+◌, ◌-◌, ◌<◌, ◌≤◌}
 use mathlib.Core.Path.{◌≡◌, refl, sym, ap, ◌∙◌}
-use mathlib.Core.List.{List, [], ◌∷◌, ◌++◌, append_assoc}
+use mathlib.Core.List.{List, [], ◌∷◌, ◌++◌, append_assoc, append-nil}
 use native.Mathlib.Omega.{arith}
 use native.Mathlib.Numerals.{add-one}
+use borrow.Rule.Slice.PartMut.{put_mid, mid_of, post_of}
 use lib.Dec.{eqb, ltb}
-use lib.ListN.{length, get_or, set, take, drop, length-append, drop_of_length-le, take-append-drop}
-use lib.Seq.{drop-cons, drop_at, drop-drop, take_at, take-suc-set, length-take-le}
+use lib.ListN.{length, get_or, set, take, drop, length-append, length-drop, drop_of_length-le, take-append-drop}
+use lib.Seq.{take_all, drop-cons, drop_at, drop-drop, take_at, take-suc-set, length-take-le}
 use borrow.Author.Tests.{eq-eqb, ne_eqb, lt-ltb, le-ltb}
 use Rattle.p0_choice.specs.Choice.{pick}
 use Rattle.p0_refusals.specs.Answers.{onto}
@@ -35,14 +36,15 @@ module _ (s : State) (held : List ℕ) (phase : Phase) (part : List ℕ) (i : �
     to_end = t ∙ to_turn (state held phase) part i h ∙ rw (← e, eq-eqb b 10 q, ← f) refl
 
     pub out_end : (o o' : List ℕ) (n r : ℕ) → n ≤ length o → r ≡ n + length (end_out phase held)
-        → o' ≡ take n o ++ (end_out phase held ++ drop r o)
+        → o' ≡ take n o ++ onto (end_out phase held) (drop n o)
         → run_out s part ≡ take n o ++ run_out (state held phase) (drop i part) → run_out s part ≡ take r o'
         ++ run_out (state [] next) (drop (i + 1) part)
     unfolding step_to step_out
     out_end o o' n r l k w u =
         let p = take n o ++ end_out phase held in
+        let d = drop (length (end_out phase held)) (drop n o) in
         let j : length p ≡ r = omega (arith, length-append (take n o) (end_out phase held), length-take-le n o l) in
-        let g : take r o' ≡ p = rw (w, ← append_assoc (take n o) (end_out phase held) (drop r o)) (take_at p (drop r o) r j) in
+        let g : take r o' ≡ p = rw (w, ← append_assoc (take n o) (end_out phase held) d) (take_at p d r j) in
         u ∙ rw (out_turn (state held phase) part i h, ← e, eq-eqb b 10 q, ← f, g) (simp append_assoc)
 
   -- a byte of the line
@@ -76,15 +78,24 @@ pub line_laid : (x line : List ℕ) (len : ℕ) (part : List ℕ) (i : ℕ) → 
 unfolding line_after
 line_laid x line len part i h t = sym (t ∙ rw (drop_of_length-le part h) refl)
 
+-- what is written from place n on
+pub written_on : (o ys e : List ℕ) (n : ℕ) → n ≤ length o → ys ≡ onto e (mid_of n (length o - n) o)
+    → put_mid n (length o - n) o ys ≡ take n o ++ onto e (drop n o)
+written_on o ys e n h f =
+    let l : length (drop n o) ≡ length o - n = length-drop n o in
+    let m : mid_of n (length o - n) o ≡ drop n o = take_all (length o - n) (drop n o) (omega arith) in
+    let z : post_of n (length o - n) o ≡ [] = drop_of_length-le (drop n o) (omega arith) in
+    rw (f, m, z, append-nil) refl
+
 -- ---- the output past what is printed
-pub past_end : (o o' o₀ e : List ℕ) (n r : ℕ) → n ≤ length o → r ≡ n + length e → o' ≡ take n o ++ (e ++ drop r o) → drop n o ≡ drop n o₀
-    → drop r o' ≡ drop r o₀
+pub past_end : (o o' o₀ e : List ℕ) (n r : ℕ) → n ≤ length o → r ≡ n + length e → o' ≡ take n o ++ onto e (drop n o)
+    → drop n o ≡ drop n o₀ → drop r o' ≡ drop r o₀
 past_end o o' o₀ e n r l k w d =
     let p = take n o ++ e in
+    let x = drop (length e) (drop n o) in
     let j : length p ≡ r = omega (arith, length-append (take n o) e, length-take-le n o l) in
-    let g : drop r o' ≡ drop r o = rw (w, ← append_assoc (take n o) e (drop r o)) (drop_at p (drop r o) r j) in
-    let m : drop r o ≡ drop r o₀ = rw k (sym (drop-drop (length e) n o) ∙ ap (drop (length e)) d ∙ drop-drop (length e) n o₀) in
-    g ∙ m
+    let g : drop r o' ≡ x = rw (w, ← append_assoc (take n o) e x) (drop_at p x r j) in
+    g ∙ rw (k, d) (drop-drop (length e) n o₀)
 
 -- what is printed stands at the start, and the rest is as it was
 pub printed : (o o₀ u : List ℕ) (n : ℕ) → n ≤ length o → u ≡ take n o → drop n o ≡ drop n o₀ → (n ≡ length u) × (o ≡ onto u o₀)

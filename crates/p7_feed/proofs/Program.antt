@@ -12,8 +12,9 @@ use borrow.Author.Tests.{le-ltb, ltb-true, ltb-false}
 use Rattle.p0_choice.specs.Choice.{pick}
 use Rattle.p7_line.specs.Line.{most, refused_line}
 use Rattle.p7_line.specs.Method.{begun_by}
-use Rattle.p7_line.specs.declared.Begun.{Begun}
-use Rattle.p7_line.specs.declared.Begun.TheVariants.{With, Refused}
+use Rattle.std.specs.Prelude.{Result, Ok, Err}
+use Rattle.p0_refusals.specs.declared.Refusal.{Refusal}
+use Rattle.p2_input_method.specs.declared.InputMethod.{InputMethod}
 use Rattle.p7_line.proofs.Bounded.{method_bounded, line_bounded}
 use Rattle.p7_feed.specs.declared.Phase.{Phase}
 use Rattle.p7_feed.specs.declared.Phase.TheVariants.{Start, Keys, Ended}
@@ -27,10 +28,10 @@ rest Start lines = program lines
 rest (Keys m) lines = all_lines m lines
 rest Ended lines = []
 
-after_begun : (b : Begun) (lines : List (List ℕ)) → after_method b lines ≡ begun_out b ++ rest (begun_phase b) lines
+after_begun : (b : Result InputMethod Refusal) (lines : List (List ℕ)) → after_method b lines ≡ begun_out b ++ rest (begun_phase b) lines
 unfolding after_method begun_out begun_phase rest
-after_begun (With m) lines = refl
-after_begun (Refused r) lines = sym (append-nil (refused_line r))
+after_begun (Ok m) lines = refl
+after_begun (Err r) lines = sym (append-nil (refused_line r))
 
 rest_line : (p : Phase) (l : List ℕ) (lines : List (List ℕ)) → rest p (l ∷ lines) ≡ end_out p l ++ rest (end_phase p l) lines
 unfolding rest program all_lines end_out end_phase
@@ -38,10 +39,10 @@ rest_line Start l lines = after_begun (begun_by l) lines
 rest_line (Keys m) l lines = refl
 rest_line Ended l lines = refl
 
-rest_begun : (b : Begun) → rest (begun_phase b) [] ≡ []
+rest_begun : (b : Result InputMethod Refusal) → rest (begun_phase b) [] ≡ []
 unfolding rest begun_phase all_lines
-rest_begun (With m) = refl
-rest_begun (Refused r) = refl
+rest_begun (Ok m) = refl
+rest_begun (Err r) = refl
 
 rest_none : (p : Phase) (l : List ℕ) → rest (end_phase p l) [] ≡ []
 unfolding rest end_phase all_lines

@@ -1,15 +1,14 @@
 -- How the code holds things: no sentence of document 01 stands here, and no promise to a host leads here.
 -- The run over bytes as they come: what is held of the line at hand, and what each byte prints.
-use Rattle.std.specs.Prelude.{ℕ, ◌+◌, ◌*◌, List, [], ◌∷◌, ◌++◌, eqb, ltb, length, take, set}
+use Rattle.std.specs.Prelude.{ℕ, ◌+◌, ◌*◌, List, [], ◌∷◌, ◌++◌, eqb, ltb, length, take, set, Result, Ok, Err}
 use Rattle.p0_choice.specs.Choice.{pick}
 use Rattle.p0_choice.specs.Text.{line_end}
 use Rattle.p7_line.specs.Line.{most, refused_line, line_out}
 use Rattle.p7_line.specs.Mirror.{line_room}
 use Rattle.p7_line.specs.Method.{begun_by}
-use Rattle.p7_line.specs.declared.Begun.{Begun}
-use Rattle.p7_line.specs.declared.Begun.TheVariants.{With, Refused}
+use Rattle.p0_refusals.specs.declared.Refusal.{Refusal}
+use Rattle.p2_input_method.specs.declared.InputMethod.{InputMethod}
 use Rattle.p7_feed.specs.declared.Carry.{Carry}
-use Rattle.p7_feed.specs.declared.Fed.{Fed}
 use Rattle.p7_feed.specs.declared.Phase.{Phase}
 use Rattle.p7_feed.specs.declared.Phase.TheVariants.{Start, Keys, Ended}
 
@@ -21,8 +20,8 @@ abbrev pub state : List ℕ → Phase → State
 state l p = record { held = l; phase = p }
 
 -- what is held stands at the start of the line's buffer
-abbrev pub state_of : List ℕ → Carry → State
-state_of line c = state (take c.len line) c.phase
+abbrev pub state_of : Carry → State
+state_of c = state (take c.len c.line) c.phase
 
 -- the most bytes of a part, and room for what they print: a line each
 abbrev pub part_most : ℕ
@@ -36,13 +35,13 @@ unfoldable pub hold : List ℕ → ℕ → List ℕ
 hold l b = pick (ltb (length l) most) (l ++ (b ∷ [])) l
 
 -- the phase after a line, and what the line prints
-unfoldable pub begun_phase : Begun → Phase
-begun_phase (With m) = Keys m
-begun_phase (Refused r) = Ended
+unfoldable pub begun_phase : Result InputMethod Refusal → Phase
+begun_phase (Ok m) = Keys m
+begun_phase (Err r) = Ended
 
-unfoldable pub begun_out : Begun → List ℕ
-begun_out (With m) = []
-begun_out (Refused r) = refused_line r
+unfoldable pub begun_out : Result InputMethod Refusal → List ℕ
+begun_out (Ok m) = []
+begun_out (Err r) = refused_line r
 
 unfoldable pub end_phase : Phase → List ℕ → Phase
 end_phase Start l = begun_phase (begun_by l)
@@ -79,17 +78,20 @@ unfoldable pub parts_out : State → List (List ℕ) → List ℕ
 parts_out s [] = []
 parts_out s (part ∷ parts) = run_out s part ++ parts_out (run_to s part) parts
 
--- what goes on to the next part, and how much this one prints
-unfoldable pub fed : State → List ℕ → Fed
-fed s part =
-    record { carry = record { len = length (run_to s part).held; phase = (run_to s part).phase }; n = length (run_out s part) }
-
 -- the line's buffer after a part, where the first len bytes of it are held before: each byte of a line is laid into it
 unfoldable pub line_after : List ℕ → ℕ → List ℕ → List ℕ
 line_after line len [] = line
 line_after line len (b ∷ bs) =
     pick (eqb b line_end) (line_after line 0 bs)
     (pick (ltb len most) (line_after (set line len b) (len + 1) bs) (line_after line len bs))
+
+-- what goes on to the next part
+unfoldable pub fed : Carry → List ℕ → Carry
+fed c part = record {
+  line = line_after c.line c.len part;
+  len = length (run_to (state_of c) part).held;
+  phase = (run_to (state_of c) part).phase;
+}
 
 -- the end of the input: an unfinished line counts if it has a byte, and the method line always
 unfoldable pub finish_keys : Phase → List ℕ → List ℕ

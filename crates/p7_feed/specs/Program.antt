@@ -1,12 +1,11 @@
 -- Document 01, "Examples to hold it to": what the program `wordline` prints for the whole of its input.
-use Rattle.std.specs.Prelude.{ℕ, List, [], ◌∷◌, ◌++◌, eqb}
+use Rattle.std.specs.Prelude.{ℕ, List, [], ◌∷◌, ◌++◌, eqb, Result, Ok, Err}
 use Rattle.p0_choice.specs.Choice.{pick}
 use Rattle.p0_choice.specs.Text.{line_end}
 use Rattle.p2_input_method.specs.declared.InputMethod.{InputMethod}
 use Rattle.p7_line.specs.Line.{refused_line, line_out}
 use Rattle.p7_line.specs.Method.{begun_by}
-use Rattle.p7_line.specs.declared.Begun.{Begun}
-use Rattle.p7_line.specs.declared.Begun.TheVariants.{With, Refused}
+use Rattle.p0_refusals.specs.declared.Refusal.{Refusal}
 
 -- "a line ends at U+000A"; "An unfinished last line counts if it has a byte." `line` is what was read of the line at hand.
 unfoldable pub lines_from : List ℕ → List ℕ → List (List ℕ)
@@ -20,9 +19,9 @@ all_lines m [] = []
 all_lines m (line ∷ lines) = line_out m line ++ all_lines m lines
 
 -- "A refused method line prints its refusal and ends the run."
-unfoldable pub after_method : Begun → List (List ℕ) → List ℕ
-after_method (With m) lines = all_lines m lines
-after_method (Refused r) lines = refused_line r
+unfoldable pub after_method : Result InputMethod Refusal → List (List ℕ) → List ℕ
+after_method (Ok m) lines = all_lines m lines
+after_method (Err r) lines = refused_line r
 
 -- "reads standard input: a method line, then .."; "A program given no byte at all answers 9", as an empty method line does
 unfoldable pub program : List (List ℕ) → List ℕ

@@ -1,14 +1,15 @@
 // What `wordline` does with its input, a part at a time: the line at hand is held in bounded memory.
 #![tactic(auto)]
 
-ghost use Rattle.std.specs.Prelude.{◌≡◌, ◌++◌, ◌+◌, ◌≤◌, length, take, drop};
+ghost use Rattle.std.specs.Prelude.{◌≡◌, ◌≤◌, [], length};
+ghost use Rattle.p0_choice.specs.Choice.{pick};
 ghost use Rattle.p0_refusals.specs.Answers.{onto};
 ghost use Rattle.p7_line.specs.Line.{most};
 ghost use Rattle.p7_line.specs.Mirror.{line_room};
-ghost use Rattle.p7_feed.specs.Mirror.{state_of, part_most, out_room, end_phase, end_out, run_to, run_out, fed, line_after, finish_out};
+ghost use Rattle.p7_feed.specs.Mirror.{state_of, part_most, out_room, end_phase, end_out, run_to, run_out, fed, finish_of, finish_out};
 
 use p2_input_method::InputMethod;
-use p7_line::{Begun, MOST};
+use p7_line::MOST;
 use p7_slices as slices;
 
 // The most bytes of a part; `part_most` says the same.
@@ -18,109 +19,88 @@ pub const PART: usize = 512;
 pub const ROOM: usize = PART * p7_line::ROOM;
 
 // Before the method line; reading lines of keys; after a refused method line.
-#[derive(Clone, Copy)]
+#[derive(Clone, Copy, Debug, PartialEq, Eq)]
 pub enum Phase {
     Start,
     Keys(InputMethod),
     Ended,
 }
 
-// What goes on from one part of the input to the next: how much is held of the line at hand, and the phase.
+// What goes on from one part of the input to the next: the line at hand, of which the first `len` bytes are held, and the phase.
 #[derive(Clone, Copy)]
 pub struct Carry {
+    pub line: [u8; MOST],
     pub len: usize,
     pub phase: Phase,
 }
 
-#[derive(Clone, Copy)]
-pub struct Fed {
-    pub carry: Carry,
-    pub n: usize,
-}
-
-// The phase after a line.
-fn end_phase(phase: Phase, line: &[u8]) -> Phase
-    ensures { result ≡ end_phase phase line.now }
-{
-    match phase {
-        Phase::Start => {
-            let begun = p7_line::method_line(line);
-            match begun {
-                Begun::With(m) => Phase::Keys(m),
-                Begun::Refused(_) => Phase::Ended,
-            }
-        }
-        Phase::Keys(m) => Phase::Keys(m),
-        Phase::Ended => Phase::Ended,
-    }
-}
-
-// What a line prints.
-fn end_out(phase: Phase, line: &[u8], out: &mut [u8], at: usize) -> usize
-    requires { at + line_room ≤ length out.old }
-    ensures { (result ≡ at + length (end_out phase line.now)) × (result ≤ at + line_room)
-        × (out.new ≡ take at out.old ++ (end_out phase line.now ++ drop result out.old)) }
-{
-    match phase {
-        Phase::Start => {
-            let begun = p7_line::method_line(line);
-            match begun {
-                Begun::With(_) => at,
-                Begun::Refused(refusal) => p7_line::put_refused(refusal, out, at),
-            }
-        }
-        Phase::Keys(m) => p7_line::line_out(m, line, out, at),
-        Phase::Ended => at,
-    }
-}
-
-// A part of the input; what it prints stands at the start of `out`.
-pub fn feed(part: &[u8], line: &mut [u8], carry: Carry, out: &mut [u8]) -> Fed
-    requires { (length part.now ≤ part_most) × (length line.old ≡ most) × (carry.len ≤ most) × (length out.old ≡ out_room) }
-    ensures value { (result ≡ fed (state_of line.old carry) part.now) × (result.carry.len ≤ most) × (result.n ≤ out_room) }
-    ensures held { (state_of line.new result.carry ≡ run_to (state_of line.old carry) part.now)
-        × (line.new ≡ line_after line.old carry.len part.now) }
-    ensures printed { out.new ≡ onto (run_out (state_of line.old carry) part.now) out.old }
-{
-    let mut len = carry.len;
-    let mut phase = carry.phase;
-    let mut n: usize = 0;
-    let mut i: usize = 0;
-    while i < part.len() {
-        let b = part[i];
-        i += 1;
-        if b == 10 {
-            n = end_out(phase, slices::first_bytes(line, len), out, n);
-            phase = end_phase(phase, slices::first_bytes(line, len));
-            len = 0;
-            continue;
-        }
-        if len < MOST {
-            line[len] = b;
-            len += 1;
-            continue;
-        }
-    }
-    let carry = Carry { len, phase };
-    Fed { carry, n }
-}
-
-// The end of the input: an unfinished line counts if it has a byte, and the method line always.
-pub fn finish(line: &[u8], carry: Carry, out: &mut [u8]) -> usize
+// The end of a line: writes what it prints from the start of `out`, and goes on to the phase after it.
+fn end_line(phase: &mut Phase, line: &[u8], out: &mut [u8]) -> usize
     requires { line_room ≤ length out.old }
-    ensures { (result ≡ length (finish_out (state_of line.now carry))) × (result ≤ line_room)
-        × (out.new ≡ onto (finish_out (state_of line.now carry)) out.old) }
+    ensures next { phase.new ≡ end_phase phase.old line.now }
+    ensures count { (result ≡ length (end_out phase.old line.now)) × (result ≤ line_room) }
+    ensures printed { out.new ≡ onto (end_out phase.old line.now) out.old }
 {
-    let held = slices::first_bytes(line, carry.len);
-    let phase = carry.phase;
-    match phase {
-        Phase::Start => end_out(phase, held, out, 0),
-        Phase::Keys(_) => {
-            if held.len() == 0 {
-                return 0;
+    match *phase {
+        Phase::Start => match p7_line::method_line(line) {
+            Ok(m) => {
+                *phase = Phase::Keys(m);
+                0
             }
-            end_out(phase, held, out, 0)
-        }
+            Err(refusal) => {
+                *phase = Phase::Ended;
+                p7_line::put_refused(refusal, out)
+            }
+        },
+        Phase::Keys(m) => p7_line::line_out(m, line, out),
         Phase::Ended => 0,
     }
+}
+
+// A part of the input; what it prints stands at the start of `out`, and how much it is is the answer.
+pub fn feed(part: &[u8], carry: &mut Carry, out: &mut [u8]) -> usize
+    requires { (length part.now ≤ part_most) × (carry.old.len ≤ most) × (length out.old ≡ out_room) }
+    ensures value { (result ≡ length (run_out (state_of carry.old) part.now)) × (result ≤ out_room) }
+    ensures held { (state_of carry.new ≡ run_to (state_of carry.old) part.now) × (carry.new ≡ fed carry.old part.now)
+        × (carry.new.len ≤ most) }
+    ensures printed { out.new ≡ onto (run_out (state_of carry.old) part.now) out.old }
+{
+    let mut n = 0;
+    for b in part {
+        if *b == b'\n' {
+            let line = slices::first(&carry.line, carry.len);
+            n += end_line(&mut carry.phase, line, &mut out[n..]);
+            carry.len = 0;
+            continue;
+        }
+        // of a line over the limit no more is held
+        if MOST <= carry.len {
+            continue;
+        }
+        carry.line[carry.len] = *b;
+        carry.len += 1;
+    }
+    n
+}
+
+// Whether an unfinished line counts: if it has a byte, and the method line always.
+#[tactic(auto, using(crate::proofs::Ends::finish_none, crate::proofs::Ends::finish_some))]
+fn counts(phase: Phase, line: &[u8]) -> bool
+    ensures { finish_of phase line.now ≡ pick result (end_out phase line.now) [] }
+{
+    matches!(phase, Phase::Start) || !line.is_empty()
+}
+
+// The end of the input.
+pub fn finish(carry: &Carry, out: &mut [u8]) -> usize
+    requires { line_room ≤ length out.old }
+    ensures { (result ≡ length (finish_out (state_of carry.now))) × (result ≤ line_room)
+        × (out.new ≡ onto (finish_out (state_of carry.now)) out.old) }
+{
+    let held = slices::first(&carry.line, carry.len);
+    let mut phase = carry.phase;
+    if !counts(phase, held) {
+        return 0;
+    }
+    end_line(&mut phase, held, out)
 }

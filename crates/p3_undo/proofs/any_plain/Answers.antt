@@ -1,27 +1,15 @@
-use borrow.Author.Rules.{rules}
-use mathlib.Core.Path.{refl}
-use Rattle.p3_undo.proofs.Raw.{plain_none, plain_found, plain_on}
+use Rattle.std.proofs.Common.{rules, ◌∙◌}
+use Rattle.std.proofs.lemmas.Iterator.{YieldsList-from_slice}
+use Rattle.std.proofs.lemmas.Iterator.Search.{any_from_yields_List}
+use borrow.Author.Tests.{tests}
+use Rattle.p0_choice.specs.Choice.{among}
+use Rattle.p0_choice.specs.Text.{word}
+use Rattle.p1_letters.specs.Alphabet.{ascii_lower}
+use Rattle.p3_undo.proofs.Raw.{plain_any}
 use Rattle.p3_undo.proofs.any_plain.Goals as goal
 
-ruleset answers = (rules, plain_none, plain_found, plain_on, refl)
-
-pub loop-i-init : goal.loop-i-init
-loop-i-init c = search answers
-
-pub low_at-x-requires : goal.low_at-x-requires
-low_at-x-requires c = search answers
-
-pub is_plain-requires : goal.is_plain-requires
-is_plain-requires c = search answers
-
-pub returns-then-is_plain : goal.returns-then-is_plain
-returns-then-is_plain c = search answers
-
-pub loop-i-smaller : goal.loop-i-smaller
-loop-i-smaller c = search answers
-
-pub loop-i-preserved : goal.loop-i-preserved
-loop-i-preserved c = search answers
-
 pub returns : goal.returns
-returns c = search answers
+returns c =
+    any_from_yields_List (λ x. among (ascii_lower x) (word "aeiouy")) _ _ c.any.result c.any.ensures.ran
+    (YieldsList-from_slice c.args.raw.now c.iter.ensures.rest) (λ x b q k. search (rules, tests))
+    ∙ plain_any c.args.raw.now

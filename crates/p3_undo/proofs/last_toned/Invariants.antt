@@ -1,12 +1,7 @@
-use Prim.Native.Nat.{◌≤◌}
-use mathlib.Core.Path.{◌≡◌}
-use lib.ListN.{length}
+use Rattle.std.proofs.Common.{◌≡◌, length}
 use Rattle.p3_undo.specs.Mirror.{sign_cells}
 use Rattle.p3_undo.specs.Undo.{last_with, has_tone}
 use Rattle.p3_undo.proofs.last_toned.Given as goal
 
 abbrev pub invariant-loop-i : goal.invariant-loop-i
-invariant-loop-i l = (l.i ≤ length l.row) × (last_with (has_tone l.t) (sign_cells l.row) (length l.row) ≡ last_with (has_tone l.t) (sign_cells l.row) l.i)
-
-abbrev pub decreases-loop-i : goal.decreases-loop-i
-decreases-loop-i l = l.i
+invariant-loop-i l = last_with (has_tone l.t) (sign_cells l.row) (length l.row) ≡ last_with (has_tone l.t) (sign_cells l.row) l.i

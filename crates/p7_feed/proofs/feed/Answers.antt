@@ -8,76 +8,99 @@ use lib.ListN.{length, length-set, take, drop_of_length-le}
 use lib.Seq.{length-take-le}
 use Rattle.p7_feed.specs.Mirror.{state, end_out, run_to, run_out, fed}
 use Rattle.p7_feed.proofs.Parts.{to_end, out_end, to_held, out_held, to_dropped, out_dropped, lay_end, lay_held, lay_dropped}
-use Rattle.p7_feed.proofs.Parts.{line_laid, past_end, printed}
+use Rattle.p7_feed.proofs.Parts.{line_laid, written_on, past_end, printed}
 use Rattle.p7_feed.proofs.feed.Goals as goal
 
-pub loop-i-init : goal.loop-i-init
-loop-i-init c = (search rules, search rules, search rules, search rules, search rules, refl, refl, refl, refl)
-
-pub loop-i-preserved-then-b-eq10 : goal.loop-i-preserved-then-b-eq10
-loop-i-preserved-then-b-eq10 c = let l = c.loop-i in
+pub loop-b-preserved-then-b-eq10 : goal.loop-b-preserved-then-b-eq10
+loop-b-preserved-then-b-eq10 c =
+    let l = c.loop-b in
+    let v = l.invariant in
+    let k = l.carry in
     let part = c.args.part.now in
-    let h = c.loop-i-test.true in
+    let h = c.loop-b-test.true in
     let q = c.if-b-eq10.true in
-    let f = rw c.first_bytes-then-b-eq10.ensures at c.end_phase-phase.ensures in
-    let e = rw c.first_bytes.ensures at c.end_out-n.ensures.0 in
-    let w = rw c.first_bytes.ensures at c.end_out-n.ensures.2 in (
-      search rules,
-      search rules,
-      c.end_out-n.auto.out ∙ l.invariant.2,
-      search rules,
-      omega (arith, c.end_out-n.ensures.1),
-      to_end _ (take l.len l.line) l.phase part l.i h _ refl l.invariant.5 q _ f,
-      out_end _ (take l.len l.line) l.phase part l.i h _ refl l.invariant.5 q _ f l.out _ l.n _ (omega arith) e w
-          l.invariant.6,
-      lay_end _ _ _ part l.i h _ refl l.invariant.7 q,
-      past_end l.out _ _ (end_out l.phase (take l.len l.line)) l.n _ (omega arith) e w l.invariant.8,
-    )
-
-pub loop-i-preserved-then-len-lt-MOST : goal.loop-i-preserved-then-len-lt-MOST
-loop-i-preserved-then-len-lt-MOST c = let l = c.loop-i in
-    let part = c.args.part.now in
-    let h = c.loop-i-test.true in
-    let q = c.if-b-eq10.false in (
-      search rules,
-      simp length-set l.invariant.1,
-      l.invariant.2,
-      search rules,
-      search rules,
-      to_held _ l.line l.len l.phase part l.i _ l.invariant.1 h refl q c.if-len-lt-MOST.true l.invariant.5,
-      out_held _ l.line l.len l.phase part l.i _ l.invariant.1 h refl q (take l.n l.out) c.if-len-lt-MOST.true l.invariant.5
-          l.invariant.6,
-      lay_held _ l.line l.len part l.i h _ refl l.invariant.7 q c.if-len-lt-MOST.true,
-      l.invariant.8,
-    )
-
-pub loop-i-preserved : goal.loop-i-preserved
-loop-i-preserved c = let l = c.loop-i in
-    let part = c.args.part.now in
-    let h = c.loop-i-test.true in
-    let q = c.if-b-eq10.false in (
-      search rules,
-      l.invariant.1,
-      l.invariant.2,
-      l.invariant.3,
-      search rules,
-      to_dropped _ l.line l.len l.phase part l.i _ l.invariant.1 h refl q c.if-len-lt-MOST.false l.invariant.3 l.invariant.5,
-      out_dropped _ l.line l.len l.phase part l.i _ l.invariant.1 h refl q (take l.n l.out) c.if-len-lt-MOST.false l.invariant.3
-          l.invariant.5 l.invariant.6,
-      lay_dropped _ l.line l.len part l.i h _ refl l.invariant.7 q c.if-len-lt-MOST.false,
-      l.invariant.8,
-    )
-
-pub returns : goal.returns
-unfolding run_to run_out fed
-returns c = let l = c.loop-i in
-    let part = c.args.part.now in
-    let k : length part ≤ l.i = omega arith in
-    let d = drop_of_length-le part k in
-    let to : run_to _ part ≡ state (take l.len l.line) l.phase = l.invariant.5 ∙ rw d refl in
-    let out = printed l.out _ _ l.n (omega arith) (l.invariant.6 ∙ rw d (append-nil (take l.n l.out))) l.invariant.8 in
-    let len = length-take-le l.len l.line (omega arith) in record {
-      value = (rw (to, len, ← out.0) refl, search rules, search rules);
-      held = (sym to, line_laid _ l.line l.len part l.i k l.invariant.7);
-      printed = out.1;
+    let f = rw c.first-line.ensures at c.end_line-n.ensures.next in
+    let e = rw c.first-line.ensures at c.end_line-n.ensures.count in
+    let within : l.n ≤ length l.out = omega arith in
+    let w = written_on l.out _ (end_out k.phase (take k.len k.line)) l.n within (rw c.first-line.ensures at c.end_line-n.ensures.printed) in
+    record {
+      line_long = v.line_long;
+      out_long = search rules;
+      held_most = omega arith;
+      little = omega (arith, e.1);
+      goes = to_end _ (take k.len k.line) k.phase part l.b-index h _ refl v.goes q _ f;
+      prints =
+          out_end _ (take k.len k.line) k.phase part l.b-index h _ refl v.goes q _ f l.out _ l.n _ within
+          (omega (arith, e.0)) w v.prints;
+      lays = lay_end _ _ _ part l.b-index h _ refl v.lays q;
+      rest = past_end l.out _ _ (end_out k.phase (take k.len k.line)) l.n _ within (omega (arith, e.0)) w v.rest;
     }
+
+pub loop-b-preserved-then-carry-ge-MOST : goal.loop-b-preserved-then-carry-ge-MOST
+loop-b-preserved-then-carry-ge-MOST c =
+    let l = c.loop-b in
+    let v = l.invariant in
+    let k = l.carry in
+    let part = c.args.part.now in
+    let h = c.loop-b-test.true in
+    let q = c.if-b-eq10.false in
+    let z = c.if-carry-ge-MOST.true in
+    record {
+      line_long = v.line_long;
+      out_long = v.out_long;
+      held_most = v.held_most;
+      little = search rules;
+      goes = to_dropped _ k.line k.len k.phase part l.b-index _ v.line_long h refl q z v.held_most v.goes;
+      prints =
+          out_dropped _ k.line k.len k.phase part l.b-index _ v.line_long h refl q (take l.n l.out) z v.held_most v.goes v.prints;
+      lays = lay_dropped _ k.line k.len part l.b-index h _ refl v.lays q z;
+      rest = v.rest;
+    }
+
+pub loop-b-preserved : goal.loop-b-preserved
+loop-b-preserved c =
+    let l = c.loop-b in
+    let v = l.invariant in
+    let k = l.carry in
+    let part = c.args.part.now in
+    let h = c.loop-b-test.true in
+    let q = c.if-b-eq10.false in
+    let z = c.if-carry-ge-MOST.false in
+    record {
+      line_long = simp length-set v.line_long;
+      out_long = v.out_long;
+      held_most = search rules;
+      little = search rules;
+      goes = to_held _ k.line k.len k.phase part l.b-index _ v.line_long h refl q z v.goes;
+      prints =
+          out_held _ k.line k.len k.phase part l.b-index _ v.line_long h refl q (take l.n l.out) z v.goes v.prints;
+      lays = lay_held _ k.line k.len part l.b-index h _ refl v.lays q z;
+      rest = v.rest;
+    }
+
+pub returns-clause-value : goal.returns-clause-value
+unfolding run_out
+returns-clause-value c =
+    let l = c.loop-b in
+    let d = drop_of_length-le c.args.part.now c.loop-b-test.false in
+    ((printed l.out _ _ l.n (omega arith) (l.invariant.prints ∙ rw d (append-nil (take l.n l.out))) l.invariant.rest).0, search rules)
+
+pub returns-clause-held : goal.returns-clause-held
+unfolding run_to fed
+returns-clause-held c =
+    let l = c.loop-b in
+    let k = l.carry in
+    let part = c.args.part.now in
+    let d = drop_of_length-le part c.loop-b-test.false in
+    let to : run_to _ part ≡ state (take k.len k.line) k.phase = l.invariant.goes ∙ rw d refl in (
+      sym to,
+      rw (to, length-take-le k.len k.line (omega arith), ← line_laid _ k.line k.len part l.b-index c.loop-b-test.false l.invariant.lays) refl,
+      l.invariant.held_most,
+    )
+
+pub returns-clause-printed : goal.returns-clause-printed
+unfolding run_out
+returns-clause-printed c =
+    let l = c.loop-b in
+    let d = drop_of_length-le c.args.part.now c.loop-b-test.false in
+    (printed l.out _ _ l.n (omega arith) (l.invariant.prints ∙ rw d (append-nil (take l.n l.out))) l.invariant.rest).1

@@ -1,32 +1,18 @@
-use borrow.Author.Rules.{rules}
-use Rattle.p7_feed.proofs.Ends.{finish_start, finish_keys_lem, finish_none, finish_ended, some_count, some_out, none_count, none_left}
+use native.Mathlib.Omega.{arith}
+use mathlib.Core.Path.{refl}
+use Rattle.p7_feed.specs.Mirror.{finish_out}
 use Rattle.p7_feed.proofs.finish.Goals as goal
 
-ruleset answers = (rules, finish_start, finish_keys_lem, finish_none, finish_ended, some_count, some_out, none_count, none_left)
+pub returns-then-not-counts : goal.returns-then-not-counts
+unfolding finish_out
+returns-then-not-counts c =
+    let e = rw (c.first-held.ensures, c.if-not-counts.true) at c.counts.ensures in
+    rw e (refl, omega arith, refl)
 
-pub first_bytes-held-requires : goal.first_bytes-held-requires
-first_bytes-held-requires c = search answers
-
-pub end_out-requires : goal.end_out-requires
-end_out-requires c = search answers
-
-pub returns-then-held-eq0 : goal.returns-then-held-eq0
-returns-then-held-eq0 c = search answers
-
-pub end_out-requires-in-Keys : goal.end_out-requires-in-Keys
-end_out-requires-in-Keys c = search answers
-
-pub shape_of-out-in-Start : goal.shape_of-out-in-Start
-shape_of-out-in-Start c = search answers
-
-pub returns-in-Start : goal.returns-in-Start
-returns-in-Start c = search answers
-
-pub shape_of-out-else-held-eq0 : goal.shape_of-out-else-held-eq0
-shape_of-out-else-held-eq0 c = search answers
-
-pub returns-else-held-eq0 : goal.returns-else-held-eq0
-returns-else-held-eq0 c = search answers
-
-pub returns-in-Ended : goal.returns-in-Ended
-returns-in-Ended c = search answers
+pub returns : goal.returns
+unfolding finish_out
+returns c =
+    let e = rw (c.first-held.ensures, c.if-not-counts.false) at c.counts.ensures in
+    let q = rw c.first-held.ensures at c.end_line.ensures.count in
+    let p = rw c.first-held.ensures at c.end_line.ensures.printed in
+    rw e (q.0, q.1, p)
