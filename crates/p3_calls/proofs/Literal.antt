@@ -8,6 +8,7 @@ use Rattle.p0_refusals.specs.Answers.{writes, refuses}
 use Rattle.p0_refusals.specs.declared.Refusal.TheVariants.{Foreign, Full, Unsound}
 use Rattle.p1_letters.specs.Alphabet.{in_alphabet}
 use Rattle.p3_cells.specs.Cells.{limit, typed, is_sound, used, holding}
+use Rattle.p3_cells.proofs.Leaving.{leaves}
 use Rattle.p3_cells.specs.Mirror.{with_cell, with_count}
 use Rattle.p3_cells.specs.declared.Cell.{Cell}
 use Rattle.p3_cells.specs.declared.Composition.{Composition}
@@ -41,3 +42,5 @@ module _ (c : Composition) (ch : ℕ) (s : Bool) (e : s ≡ is_sound c) where
       literal_appended x l q = rw (holding_append c whole x l, q) refl
 
 pub ruleset literals = (literal_unsound, literal_foreign, literal_full, literal_done, literal_appended)
+
+pub ruleset appends = (leaves, literals)

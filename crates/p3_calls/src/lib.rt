@@ -10,7 +10,7 @@ ghost use Rattle.p3_calls.specs.Settings.{created, reset_to, method_set, enabled
 ghost use Rattle.p3_calls.specs.Literal.{literal};
 ghost use Rattle.p3_calls.specs.Output.{text_outcome, removal_outcome, removed};
 
-use p0_refusals::{Refusal};
+use p0_refusals::Refusal;
 use p1_letters as letters;
 use p2_input_method::InputMethod;
 use p3_cells as cells;
@@ -25,116 +25,92 @@ fn refuse(c: Composition, why: Refusal) -> After
     }
 }
 
+// A call that writes nothing is done.
+fn done(c: Composition) -> After
+    ensures { result ≡ record { comp = c; answer = Ok 0 } }
+{
+    After {
+        comp: c,
+        answer: Ok(0),
+    }
+}
+
+#[tactic(auto, unfolding(p3_cells::specs::Cells::composed))]
 pub fn empty(settings: Settings) -> Composition
     ensures { result ≡ composed settings [] }
 {
-    let z = cells::blank();
-    let cs = [z; LIMIT];
     Composition {
-        cells: cs,
-        settings: settings,
+        cells: [cells::blank(); LIMIT],
+        settings,
         count: 0,
     }
 }
 
+#[tactic(auto, unfolding(crate::specs::Settings::created))]
 pub fn new(method: InputMethod) -> Composition
     ensures { result ≡ created method }
 {
     empty(Settings {
-        method: method,
+        method,
         mode: Mode::Vietnamese,
         capitals: false,
     })
 }
 
+#[tactic(auto, using(crate::proofs::Settings::settles), unfolding(crate::specs::Settings::reset_to))]
 pub fn reset(c: Composition) -> After
     ensures { result ≡ reset_to c }
 {
     if !cells::sound(c) {
         return refuse(c, Refusal::Unsound);
     }
-    let d = empty(c.settings);
-    After {
-        comp: d,
-        answer: Ok(0),
-    }
+    done(empty(c.settings))
 }
 
+#[tactic(auto, using(crate::proofs::Settings::settles), unfolding(crate::specs::Settings::method_set))]
 pub fn set_method(c: Composition, method: InputMethod) -> After
     ensures { result ≡ method_set c method }
 {
     if !cells::sound(c) {
         return refuse(c, Refusal::Unsound);
     }
-    let z = c.settings;
-    let mode = z.mode;
-    let capitals = z.capitals;
-    let d = empty(Settings {
-        method: method,
-        mode: mode,
-        capitals: capitals,
-    });
-    After {
-        comp: d,
-        answer: Ok(0),
-    }
+    done(empty(Settings {
+        method,
+        ..c.settings
+    }))
 }
 
 // Vietnamese where enabled, else English.
+#[tactic(auto, using(crate::proofs::Settings::settles), unfolding(crate::specs::Settings::enabled_set))]
 pub fn set_enabled(mut c: Composition, enabled: bool) -> After
     ensures { result ≡ enabled_set c enabled }
 {
     if !cells::sound(c) {
         return refuse(c, Refusal::Unsound);
     }
-    let z = c.settings;
-    let m = z.method;
-    let capitals = z.capitals;
     if !enabled {
-        let d = empty(Settings {
-            method: m,
+        return done(empty(Settings {
             mode: Mode::English,
-            capitals: capitals,
-        });
-        return After {
-            comp: d,
-            answer: Ok(0),
-        };
+            ..c.settings
+        }));
     }
-    let vietnamese = Settings {
-        method: m,
-        mode: Mode::Vietnamese,
-        capitals: capitals,
-    };
-    c.settings = vietnamese;
-    After {
-        comp: c,
-        answer: Ok(0),
-    }
+    c.settings.mode = Mode::Vietnamese;
+    done(c)
 }
 
 // Whether a flagged cell shows the capital of its letter, mark and tone included.
+#[tactic(auto, using(crate::proofs::Settings::settles), unfolding(crate::specs::Settings::capitals_set))]
 pub fn set_capitals(mut c: Composition, on: bool) -> After
     ensures { result ≡ capitals_set c on }
 {
     if !cells::sound(c) {
         return refuse(c, Refusal::Unsound);
     }
-    let z = c.settings;
-    let m = z.method;
-    let o = z.mode;
-    let changed = Settings {
-        method: m,
-        mode: o,
-        capitals: on,
-    };
-    c.settings = changed;
-    After {
-        comp: c,
-        answer: Ok(0),
-    }
+    c.settings.capitals = on;
+    done(c)
 }
 
+#[tactic(auto, using(crate::proofs::Literal::appends), unfolding(crate::specs::Literal::literal))]
 pub fn append_literal(mut c: Composition, ch: u32) -> After
     ensures { result ≡ literal c ch }
 {
@@ -144,19 +120,15 @@ pub fn append_literal(mut c: Composition, ch: u32) -> After
     if !letters::in_alphabet(ch) {
         return refuse(c, Refusal::Foreign);
     }
-    let n = c.count;
-    if LIMIT <= n {
+    if LIMIT <= c.count {
         return refuse(c, Refusal::Full);
     }
-    let x = cells::typed(ch);
-    c.cells[n] = x;
-    c.count = n + 1;
-    After {
-        comp: c,
-        answer: Ok(0),
-    }
+    c.cells[c.count] = cells::typed(ch);
+    c.count += 1;
+    done(c)
 }
 
+#[tactic(auto, using(crate::proofs::Output::sound_fits, crate::proofs::Output::texts))]
 pub fn get_output(c: Composition, out: &mut [u32]) -> Result<usize, Refusal>
     ensures { (result ≡ answer (text_outcome c) (length out.old))
         × (out.new ≡ output (text_outcome c) out.old) }
@@ -167,30 +139,27 @@ pub fn get_output(c: Composition, out: &mut [u32]) -> Result<usize, Refusal>
     if out.len() < c.count {
         return Err(Refusal::Short);
     }
-    let n = cells::flatten(c, out);
-    Ok(n)
+    Ok(cells::flatten(c, out))
 }
 
+#[tactic(auto, using(crate::proofs::Output::removal_fits, crate::proofs::Output::removal))]
 pub fn pop_last(mut c: Composition, out: &mut [u32]) -> After
     ensures { (result ≡ removed c (length out.old)) × (out.new ≡ output (removal_outcome c) out.old) }
 {
     if !cells::sound(c) {
         return refuse(c, Refusal::Unsound);
     }
-    let n = c.count;
-    if n == 0 {
+    if c.count == 0 {
         return refuse(c, Refusal::Empty);
     }
-    let m = n - 1;
-    if out.len() < m {
+    let left = c.count - 1;
+    if out.len() < left {
         return refuse(c, Refusal::Short);
     }
-    let z = cells::blank();
-    c.cells[m] = z;
-    c.count = m;
-    let w = cells::flatten(c, out);
+    c.cells[left] = cells::blank();
+    c.count = left;
     After {
         comp: c,
-        answer: Ok(w),
+        answer: Ok(cells::flatten(c, out)),
     }
 }
