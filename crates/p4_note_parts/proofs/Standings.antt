@@ -2,9 +2,9 @@
 use Rattle.std.specs.Prelude.{Err, Result}
 use Prim.Native.Nat.{ℕ}
 use mathlib.Core.Path.{◌≡◌, sym, ap, ◌∙◌}
-use mathlib.Core.Bool.{Bool, true, false, not}
+use mathlib.Core.Bool.{true}
 use mathlib.Core.List.{List}
-use borrow.Author.Tests.{ne_eqb, not-false}
+use borrow.Author.Tests.{ne_eqb}
 use Rattle.p0_refusals.specs.declared.Refusal.{Refusal}
 use Rattle.p4_note_line.specs.declared.Report.{Report}
 use Rattle.p4_note_parts.specs.declared.Line.{Line}
@@ -13,10 +13,6 @@ use Rattle.p4_note_parts.specs.Parts.{counted_all, part_taken, standing_answer, 
 use Rattle.p4_note_parts.proofs.Taking.{ended_stays}
 
 module _ (s : Line) where
-  -- the state has passed the test of soundness, which answers v
-  pub tested_sound : (v : Bool) → v ≡ line_sound s → not v ≡ false → line_sound s ≡ true
-  tested_sound v e t = sym e ∙ not-false v t
-
   -- ---- a part of it is taken; after a refusal it changes nothing, and the refusal is repeated
   module _ (xs : List ℕ) (h : line_sound s ≡ true) where
     pub part_taken_lem : (t : Line) (a : Result ℕ Refusal) → t ≡ part_taken s xs → a ≡ standing_answer t.standing

@@ -209,7 +209,7 @@ pub fn begin() -> Line
 }
 
 // The next part of a line. Refusals: 10, then 1 and 6 by place; these two the state keeps, and repeats.
-#[tactic(auto, using(p0_choice::proofs::Choices::calls, crate::proofs::Standings::tested_sound, crate::proofs::Standings::part_taken_lem, crate::proofs::Standings::part_refused), unfolding(crate::specs::Parts::part_after))]
+#[tactic(auto, using(p0_choice::proofs::Choices::calls, crate::proofs::Standings::part_taken_lem), unfolding(crate::specs::Parts::part_after))]
 pub fn part(s: Line, letters: &[u32]) -> LineAfter
     ensures { result ≡ part_after s letters.now }
 {
@@ -233,7 +233,7 @@ pub fn part(s: Line, letters: &[u32]) -> LineAfter
 }
 
 // What is told of the letters that have come, at any time. Refusals: 10, then the one that the state keeps.
-#[tactic(auto, using(p0_choice::proofs::Choices::calls, crate::proofs::Standings::tested_sound, crate::proofs::Standings::told_none, crate::proofs::Standings::told_some, crate::proofs::Standings::answer_stands), unfolding(crate::specs::Parts::state_answer))]
+#[tactic(auto, using(p0_choice::proofs::Choices::calls, crate::proofs::Standings::told_none, crate::proofs::Standings::told_some, crate::proofs::Standings::answer_stands), unfolding(crate::specs::Parts::state_answer))]
 pub fn answer(s: Line) -> Result<Report, Refusal>
     ensures { result ≡ state_answer s }
 {

@@ -17,6 +17,9 @@ use p4_rows as rows;
 // The letters of the longest accepted word; `longest_length` says the same.
 pub const LONGEST: usize = 8;
 
+// The one onset of a row that no word may have.
+const Z: u32 = 0x7a;
+
 // Where a word is cut: its onset ends before `onset`, its vowels end before `vowels`.
 #[derive(Clone, Copy, Debug, PartialEq, Eq)]
 pub struct CutPlaces {
@@ -153,7 +156,7 @@ pub fn accepts(word: &[u32]) -> bool
     for (i, x) in word.iter().enumerate() {
         plain[i] = letters::strip_tone(letters::lower(*x));
     }
-    if plain[0] == 0x7a {
+    if plain[0] == Z {
         return false;
     }
     fits(&plain[..word.len()])

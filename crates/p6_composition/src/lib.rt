@@ -2,7 +2,7 @@
 // and stored where they lie. After a refusal not a byte has changed.
 #![tactic(auto)]
 
-ghost use Rattle.std.specs.Prelude.{◌≡◌, true, ◌++◌, ◌<◌, ◌≤◌, length, take, drop};
+ghost use Rattle.std.specs.Prelude.{ℕ, map, ◌≡◌, true, ◌++◌, ◌<◌, ◌≤◌, length, take, drop};
 ghost use Rattle.p3_calls.specs.Output.{text_outcome, removal_outcome};
 ghost use Rattle.p3_cells.specs.Cells.{limit, used};
 ghost use Rattle.p3_cells.specs.Mirror.{first_cells, first_text, row_cells};
@@ -21,7 +21,7 @@ ghost use Rattle.p6_composition.specs.Calls.{method_on, mode_on, capitals_on, te
 use p0_refusals::{LETTERS, Refusal};
 use p1_letters as letters;
 use p3_cells as cells;
-use p3_cells::{LIMIT, Settings};
+use p3_cells::{Cell, LIMIT, Settings};
 use p3_step as step;
 use p3_step::{Change, Step};
 use p3_undo as undo;
@@ -43,13 +43,15 @@ fn text(b: &[u8; SIZE], n: usize, out: &mut [u32])
 
 // ---- a key
 
-// The bases of the first n cells, from the start of a row.
-fn fill(b: &[u8; SIZE], n: usize, row: &mut [u32])
-    requires { (n ≤ limit) × (n ≤ length row.old) }
-    ensures { take n row.new ≡ bases (first_cells (composition_of b.now) n) }
+// A number of each of the first n cells, from the start of a row.
+#[tactic(auto, using(crate::proofs::Filled::filled_more))]
+fn fill<F: Fn(Cell) -> u32>(b: &[u8; SIZE], n: usize, number: F, row: &mut [u32])
+    requires callable { F.IsAlwaysCallable number }
+    requires room { (n ≤ limit) × (n ≤ length row.old) }
+    ensures { (h : Cell → ℕ) → ((x : Cell) (r : ℕ) → F.post number x r → r ≡ h x) → take n row.new ≡ map h (first_cells (composition_of b.now) n) }
 {
     for i in 0..n {
-        row[i] = bytes::cell(b, i).base;
+        row[i] = number(bytes::cell(b, i));
     }
 }
 
@@ -67,7 +69,7 @@ fn step_on(b: &[u8; SIZE], z: Settings, k: u32, n: usize) -> Step
         };
     }
     let mut row = [0u32; LIMIT];
-    fill(b, n, &mut row);
+    fill(b, n, |x| x.base, &mut row);
     step::first_step(z, &row[..n], k)
 }
 
@@ -190,16 +192,6 @@ pub fn get_output(state: &[u8], out: &mut [u32]) -> Result<usize, Refusal>
 
 // ---- undo
 
-// The signs of the first n cells, from the start of a row.
-fn fill_signs(b: &[u8; SIZE], n: usize, row: &mut [u32])
-    requires { (n ≤ limit) × (n ≤ length row.old) }
-    ensures { take n row.new ≡ signs (first_cells (composition_of b.now) n) }
-{
-    for i in 0..n {
-        row[i] = undo::sign(bytes::cell(b, i));
-    }
-}
-
 // What a trigger in lower case is to undo.
 fn undo_on(b: &[u8; SIZE], n: usize, raw: &[u32], t: u32) -> Option<Undoing>
     requires { (bytes_sound b.now ≡ true) × (n ≡ (composition_of b.now).count) × (n ≤ limit) }
@@ -208,7 +200,7 @@ fn undo_on(b: &[u8; SIZE], n: usize, raw: &[u32], t: u32) -> Option<Undoing>
 {
     let z = bytes::settings(b);
     let mut row = [0u32; LIMIT];
-    fill_signs(b, n, &mut row);
+    fill(b, n, undo::sign, &mut row);
     undo::to_undo(z.method, &row[..n], raw, t)
 }
 

@@ -1,12 +1,11 @@
 -- The calls: what each way through one of them answers and leaves.
-use Rattle.std.specs.Prelude.{Err, Result}
+use Rattle.std.specs.Prelude.{Err, Ok, Result}
 use Prim.Native.Nat.{ℕ, ◌-◌, ◌≤◌}
 use mathlib.Core.Path.{◌≡◌, refl, sym, ◌∙◌}
-use mathlib.Core.Bool.{Bool, true, false, not}
+use mathlib.Core.Bool.{Bool, true, false}
 use mathlib.Core.List.{List, [], ◌++◌}
 use native.Mathlib.Omega.{arith}
 use lib.ListN.{length, take, drop, drop_of_length-le}
-use borrow.Author.Tests.{not-true, not-false}
 use mir.Syntax.{w8}
 use mir.Val.{Fits}
 use Rattle.p0_choice.specs.Choice.{pick}
@@ -46,15 +45,39 @@ either_way : {A : Type 0} (t : Bool) (r a : A) → (t ≡ false → r ≡ a) →
 either_way true r a f = refl
 either_way false r a f = f refl
 
--- ---- by the answer v of the test whether the bytes spell a state
-module _ (b : List ℕ) (v : Bool) (e : v ≡ spells_line b) where
-  pub unspelt : not v ≡ true → line_bytes_sound b ≡ false
+-- ---- by the answer g of the reading
+module _ (b : List ℕ) (g : Result Line Refusal) (e : g ≡ pick (spells_line b) (Ok (line_of b)) (Err Unsound)) where
+  by_test : (v : Bool) → spells_line b ≡ v → (r : Refusal) → pick v (Ok (line_of b)) (Err Unsound) ≡ Err r
+      → (r ≡ Unsound) × (line_bytes_sound b ≡ false)
   unfolding line_bytes_sound
-  unspelt n = rw (← e, not-true v n) refl
+  by_test true q r h = cc
+  by_test false q r h = (cc, rw q refl)
 
-  module _ (y : not v ≡ false) where
+  unread : (r : Refusal) → g ≡ Err r → (r ≡ Unsound) × (line_bytes_sound b ≡ false)
+  unread r h = by_test (spells_line b) refl r (sym e ∙ h)
+
+  pub unread_answer : (r : Refusal) (xs : List ℕ) → g ≡ Err r → Err r ≡ line_part_on b xs
+  unfolding line_part_on
+  unread_answer r xs h = let u = unread r h in rw (u.1, u.0) refl
+
+  pub unread_bytes : (r : Refusal) (xs : List ℕ) → g ≡ Err r → b ≡ line_part_bytes b xs
+  unfolding line_part_bytes
+  unread_bytes r xs h = rw (unread r h).1 refl
+
+  pub unread_told : (r : Refusal) → g ≡ Err r → ◌≡◌ {A = Result Report Refusal} (Err r) (line_answer_on b)
+  unfolding line_answer_on
+  unread_told r h = let u = unread r h in rw (u.1, u.0) refl
+
+  module _ (s : Line) (h : g ≡ Ok s) where
+    by_test_ok : (v : Bool) → spells_line b ≡ v → pick v (Ok (line_of b)) (Err Unsound) ≡ Ok s → (spells_line b ≡ true) × (s ≡ line_of b)
+    by_test_ok true q k = (q, cc)
+    by_test_ok false q k = cc
+
     spelt : spells_line b ≡ true
-    spelt = sym e ∙ not-false v y
+    spelt = (by_test_ok (spells_line b) refl (sym e ∙ h)).0
+
+    is : s ≡ line_of b
+    is = (by_test_ok (spells_line b) refl (sym e ∙ h)).1
 
     pub spelt_room : length b ≡ line_size
     spelt_room = spelt_size b spelt
@@ -64,24 +87,23 @@ module _ (b : List ℕ) (v : Bool) (e : v ≡ spells_line b) where
     unsound u = rw spelt at u
 
     -- the call by value, on the state s that they spell
-    module _ (s : Line) (p : s ≡ line_of b) where
-      pub part_answer : (xs : List ℕ) (t : LineAfter) → t ≡ part_after s xs → t.answer ≡ line_part_on b xs
-      unfolding line_part_on
-      part_answer xs t q =
-          rw (q, p)
-          (either_way (line_bytes_sound b) (part_after (line_of b) xs).answer (Err Unsound)
-          (λ u. rw (after_unsound (line_of b) (unsound u) xs) refl))
+    pub part_answer : (xs : List ℕ) (t : LineAfter) → t ≡ part_after s xs → t.answer ≡ line_part_on b xs
+    unfolding line_part_on
+    part_answer xs t q =
+        rw (q, is)
+        (either_way (line_bytes_sound b) (part_after (line_of b) xs).answer (Err Unsound)
+        (λ u. rw (after_unsound (line_of b) (unsound u) xs) refl))
 
-      pub part_bytes : (xs new : List ℕ) (t : LineAfter) → t ≡ part_after s xs → new ≡ line_bytes t.line
-          → ((k : ℕ) → Fits w8 (byte_at b k)) → new ≡ line_part_bytes b xs
-      unfolding line_part_bytes
-      part_bytes xs new t q r f =
-          r ∙ rw (q, p)
-          (either_way (line_bytes_sound b) (line_bytes (part_after (line_of b) xs).line) b
-          (λ u. rw (after_unsound (line_of b) (unsound u) xs) (spelt_back b (λ k. (f k).fits) spelt)))
+    pub part_bytes : (xs new : List ℕ) (t : LineAfter) → t ≡ part_after s xs → new ≡ line_bytes t.line
+        → ((k : ℕ) → Fits w8 (byte_at b k)) → new ≡ line_part_bytes b xs
+    unfolding line_part_bytes
+    part_bytes xs new t q r f =
+        r ∙ rw (q, is)
+        (either_way (line_bytes_sound b) (line_bytes (part_after (line_of b) xs).line) b
+        (λ u. rw (after_unsound (line_of b) (unsound u) xs) (spelt_back b (λ k. (f k).fits) spelt)))
 
-      pub checked_answer : (r : Result Report Refusal) → r ≡ state_answer s → r ≡ line_answer_on b
-      unfolding line_answer_on
-      checked_answer r q =
-          q ∙ rw p
-          (either_way (line_bytes_sound b) (state_answer (line_of b)) (Err Unsound) (λ u. answer_unsound (line_of b) (unsound u)))
+    pub checked_answer : (r : Result Report Refusal) → r ≡ state_answer s → r ≡ line_answer_on b
+    unfolding line_answer_on
+    checked_answer r q =
+        q ∙ rw is
+        (either_way (line_bytes_sound b) (state_answer (line_of b)) (Err Unsound) (λ u. answer_unsound (line_of b) (unsound u)))

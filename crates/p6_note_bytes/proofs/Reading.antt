@@ -1,20 +1,17 @@
--- Reading bytes: the standing, the kept letters one by one, the whole state, and whether there is one to read.
+-- Reading bytes: the standing, the kept letters one by one, and the whole state.
 use Rattle.std.specs.Prelude.{Err, Ok}
 use Rattle.p0_refusals.specs.declared.Refusal.TheVariants.{Foreign, Long}
 use Prim.Native.Nat.{ℕ, zero, suc, ◌+◌, ◌*◌, ◌<◌, ◌≤◌}
 use mathlib.Core.Path.{◌≡◌, refl, sym, ap, ◌∙◌}
-use mathlib.Core.Bool.{true, false}
 use mathlib.Core.List.{List, [], ◌∷◌, ◌++◌}
 use native.Mathlib.Omega.{arith}
 use lib.ListN.{length, take, set}
 use lib.Seq.{take_all, take-suc-set}
-use borrow.Author.Tests.{eq-eqb}
-use Rattle.p0_choice.specs.Choice.{among}
 use Rattle.p0_choice.proofs.Arms.{arm}
 use Rattle.p0_choice.proofs.Choices.{picks}
 use Rattle.p4_note_parts.specs.State.{Standing}
 use Rattle.p4_spelling.specs.Verdict.{longest_length}
-use Rattle.p6_note_bytes.specs.Bytes.{kept_start, line_size, standing_of, two_at, kept_at, line_of, standings, spells_line}
+use Rattle.p6_note_bytes.specs.Bytes.{kept_start, standing_of, two_at, kept_at, line_of}
 use Rattle.p6_zeros.specs.Zeros.{byte_at}
 
 -- ---- the standing
@@ -61,17 +58,3 @@ pub line_read : (b kept : List ℕ) (o : Standing) (m r w n f : ℕ) → kept �
     → record { letters = kept; length = m; run = r; words = w; noes = n; first = f; standing = o } ≡ line_of b
 unfolding line_of
 line_read b kept o m r w n f p0 p1 p2 p3 p4 p5 p6 = rw (p0, p1, p2, p3, p4, p5, p6) refl
-
--- ---- whether bytes spell one: by their number, then by the first of them
-module _ (b : List ℕ) where
-  pub spells_size : (length b ≡ line_size → ⊥) → false ≡ spells_line b
-  unfolding spells_line
-  spells_size h = search picks
-
-  pub spells_standing : (x : ℕ) → length b ≡ line_size → byte_at b 0 ≡ x → true ≡ among x standings → true ≡ spells_line b
-  unfolding spells_line
-  spells_standing x l e h = rw (eq-eqb (length b) line_size l, e) h
-
-  pub spells_none : length b ≡ line_size → (byte_at b 0 ≡ 0 → ⊥) → (byte_at b 0 ≡ 1 → ⊥) → (byte_at b 0 ≡ 6 → ⊥) → false ≡ spells_line b
-  unfolding spells_line
-  spells_none l h j k = search picks depth 8

@@ -91,7 +91,9 @@ module _ (s : Line) (h : line_sound s ≡ true) (n : length s.letters ≡ longes
   unfolding line_bytes_sound spells_line line_bytes line_head
   written_sound =
       let l : length (line_bytes s) ≡ line_size = omega (arith, kept_bytes_lem s.letters) in
-      are_both _ _ (are_both _ _ (eq-eqb (length (line_bytes s)) line_size l) (standing_spelt s.standing s.length s.run (sound_facts s h).end)) (rw read_written h)
+      are_both _ _
+      (are_both _ _ (eq-eqb (length (line_bytes s)) line_size l) (standing_spelt s.standing s.length s.run (sound_facts s h).end))
+      (rw read_written h)
 
 -- ---- written back
 -- a byte that spells a standing

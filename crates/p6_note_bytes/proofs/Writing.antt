@@ -1,4 +1,4 @@
--- Writing bytes: the head, the kept letters one by one, the whole state.
+-- Writing bytes: the kept letters one by one, and the whole state.
 use Prim.Native.Nat.{ℕ, suc, ◌+◌, ◌*◌, ◌/◌, ◌%◌, ◌<◌, ◌≤◌}
 use mathlib.Core.Path.{◌≡◌, refl, sym, ap, ◌∙◌}
 use mathlib.Core.List.{List, [], ◌∷◌, ◌++◌, append_assoc, append-nil}
@@ -7,16 +7,7 @@ use lib.ListN.{length, get_or, take, drop, set, length-append, length-drop, take
 use lib.Seq.{length-take-le, take_all, take-suc, take_at, drop-append-add, drop-drop, sets-eq}
 use Rattle.p4_note_parts.specs.declared.Line.{Line}
 use Rattle.p4_spelling.specs.Verdict.{longest_length}
-use Rattle.p6_note_bytes.specs.Bytes.{kept_start, line_size, standing_byte, two_bytes, kept_bytes, line_head, line_bytes}
-
--- ---- the head: ten stores
-pub head_put : (b : List ℕ) (s : Line) (o : ℕ) → length b ≡ line_size → o ≡ standing_byte s.standing
-    → set (set (set (set (set
-    (set (set (set (set (set b 0 o) 1 (s.run % 256)) 2 (s.length % 256)) 3 (s.length / 256 % 256)) 4 (s.words % 256))
-    5 (s.words / 256 % 256)) 6 (s.noes % 256)) 7 (s.noes / 256 % 256)) 8 (s.first % 256)) 9 (s.first / 256 % 256)
-    ≡ line_head s ++ drop kept_start b
-unfolding line_head
-head_put b s o l p = rw p (sets-eq (line_head s) b 0 (omega arith))
+use Rattle.p6_note_bytes.specs.Bytes.{kept_start, line_size, two_bytes, kept_bytes, line_head, line_bytes}
 
 -- ---- the kept letters
 -- those of one letter more stand at the end

@@ -2,8 +2,9 @@
 #![tactic(auto)]
 
 ghost use Rattle.std.specs.Prelude.{◌≡◌, ◌++◌, ◌+◌, ◌*◌, ◌≤◌, length, take, drop};
+ghost use Rattle.p0_choice.specs.Choice.{pick};
 ghost use Rattle.p4_spelling.specs.Verdict.{longest_length};
-ghost use Rattle.p6_note_bytes.specs.Bytes.{kept_start, line_size, standing_byte, kept_bytes, line_head, line_bytes};
+ghost use Rattle.p6_note_bytes.specs.Bytes.{kept_start, line_size, standing_byte, two_bytes, kept_bytes, line_head, line_bytes};
 ghost use Rattle.p6_note_bytes.specs.Bytes.{standing_of, two_at, kept_at, line_of, spells_line};
 ghost use Rattle.p6_note_bytes.specs.Calls.{line_begin_on, line_begin_bytes, line_part_on, line_part_bytes, line_answer_on};
 
@@ -21,48 +22,21 @@ pub const SIZE: usize = HEAD + 2 * LONGEST;
 
 // ---- reading
 
-fn two(b0: u8, b1: u8) -> u32
-    ensures { result ≡ b0 + b1 * 256 }
-{
-    (b0 as u32) + (b1 as u32) * 256
-}
-
-fn wide(n: u32) -> usize
-    ensures { result ≡ n }
-{
-    n as usize
-}
-
-fn letter_at(b: &[u8], at: usize) -> u32
-    requires { at + 2 ≤ length b.now }
+// The number in two bytes, low byte first.
+fn two_at(b: &[u8; SIZE], at: usize) -> u16
+    requires { at + 2 ≤ line_size }
     ensures { result ≡ two_at b.now at }
 {
-    two(b[at], b[at + 1])
+    u16::from_le_bytes([b[at], b[at + 1]])
 }
 
-fn number_at(b: &[u8], at: usize) -> usize
-    requires { at + 2 ≤ length b.now }
-    ensures { result ≡ two_at b.now at }
-{
-    wide(letter_at(b, at))
-}
-
-// One byte as a number.
-fn number(b: u8) -> usize
-    ensures { result ≡ b }
-{
-    b as usize
-}
-
-fn kept_of(b: &[u8]) -> [u32; LONGEST]
-    requires { length b.now ≡ line_size }
+#[tactic(auto, using(crate::proofs::Reading::kept_on, crate::proofs::Reading::kept_done))]
+fn kept_of(b: &[u8; SIZE]) -> [u32; LONGEST]
     ensures { result ≡ kept_at longest_length b.now kept_start }
 {
     let mut kept = [0u32; LONGEST];
-    let mut i: usize = 0;
-    while i < LONGEST {
-        kept[i] = letter_at(b, HEAD + 2 * i);
-        i += 1;
+    for i in 0..LONGEST {
+        kept[i] = u32::from(two_at(b, HEAD + 2 * i));
     }
     kept
 }
@@ -78,36 +52,32 @@ fn standing_of(x: u8) -> Standing
     }
 }
 
-fn line_of(b: &[u8]) -> Line
-    requires { length b.now ≡ line_size }
+#[tactic(auto, using(crate::proofs::Reading::line_read))]
+fn line_of(b: &[u8; SIZE]) -> Line
     ensures { result ≡ line_of b.now }
 {
-    let letters = kept_of(b);
-    let standing = standing_of(b[0]);
     Line {
-        letters,
-        length: number_at(b, 2),
-        run: number(b[1]),
-        words: number_at(b, 4),
-        noes: number_at(b, 6),
-        first: number_at(b, 8),
-        standing,
+        letters: kept_of(b),
+        length: usize::from(two_at(b, 2)),
+        run: usize::from(b[1]),
+        words: usize::from(two_at(b, 4)),
+        noes: usize::from(two_at(b, 6)),
+        first: usize::from(two_at(b, 8)),
+        standing: standing_of(b[0]),
     }
 }
 
-// Bytes that spell a state, which is to be tested yet.
-#[tactic(auto, using(crate::proofs::Reading::spells_size, crate::proofs::Reading::spells_standing, crate::proofs::Reading::spells_none))]
-fn spells(b: &[u8]) -> bool
-    ensures { result ≡ spells_line b.now }
+// The state that bytes spell, which is to be tested yet. Refusal: 10, for bytes that spell none.
+#[tactic(auto, using(p0_choice::proofs::Choices::picks), unfolding(crate::specs::Bytes::spells_line))]
+fn read(state: &[u8]) -> Result<Line, Refusal>
+    ensures { result ≡ pick (spells_line state.now) (Ok (line_of state.now)) (Err Refusal.Unsound) }
 {
-    if b.len() != SIZE {
-        return false;
-    }
+    let Ok(b) = <&[u8; SIZE]>::try_from(state) else {
+        return Err(Refusal::Unsound);
+    };
     match b[0] {
-        0 => true,
-        1 => true,
-        6 => true,
-        _ => false,
+        0 | 1 | 6 => Ok(line_of(b)),
+        _ => Err(Refusal::Unsound),
     }
 }
 
@@ -122,33 +92,47 @@ fn standing_byte(standing: Standing) -> u8
     }
 }
 
-fn put_head(b: &mut [u8], s: Line)
-    requires { length b.old ≡ line_size }
-    ensures { b.new ≡ line_head s ++ drop kept_start b.old }
+// The two low bytes of a number, low byte first.
+fn two_bytes(n: usize) -> [u8; 2]
+    ensures { result ≡ two_bytes n }
 {
-    let standing = s.standing;
-    b[0] = standing_byte(standing);
-    b[1] = (s.run % 256) as u8;
-    b[2] = (s.length % 256) as u8;
-    b[3] = (s.length / 256 % 256) as u8;
-    b[4] = (s.words % 256) as u8;
-    b[5] = (s.words / 256 % 256) as u8;
-    b[6] = (s.noes % 256) as u8;
-    b[7] = (s.noes / 256 % 256) as u8;
-    b[8] = (s.first % 256) as u8;
-    b[9] = (s.first / 256 % 256) as u8;
+    let [low, high, ..] = n.to_le_bytes();
+    [low, high]
 }
 
-fn put_kept(b: &mut [u8], kept: &[u32])
-    requires { (length b.old ≡ line_size) × (length kept.now ≡ longest_length) }
+// What stands before the kept letters.
+#[tactic(auto, unfolding(crate::specs::Bytes::line_head))]
+fn head(s: Line) -> [u8; HEAD]
+    ensures { result ≡ line_head s }
+{
+    let [run, _] = two_bytes(s.run);
+    let [length0, length1] = two_bytes(s.length);
+    let [words0, words1] = two_bytes(s.words);
+    let [noes0, noes1] = two_bytes(s.noes);
+    let [first0, first1] = two_bytes(s.first);
+    [
+        standing_byte(s.standing),
+        run,
+        length0,
+        length1,
+        words0,
+        words1,
+        noes0,
+        noes1,
+        first0,
+        first1,
+    ]
+}
+
+#[tactic(auto, using(crate::proofs::Writing::put_none, crate::proofs::Writing::put_done))]
+fn put_kept(b: &mut [u8], kept: &[u32; LONGEST])
+    requires { length b.old ≡ line_size }
     ensures { b.new ≡ take kept_start b.old ++ kept_bytes kept.now }
 {
-    let mut i: usize = 0;
-    while i < LONGEST {
-        let x = kept[i];
-        b[HEAD + 2 * i] = (x % 256) as u8;
-        b[HEAD + 2 * i + 1] = (x / 256 % 256) as u8;
-        i += 1;
+    for (i, x) in kept.iter().enumerate() {
+        let [low, high] = two_bytes(*x as usize);
+        b[HEAD + 2 * i] = low;
+        b[HEAD + 2 * i + 1] = high;
     }
 }
 
@@ -156,9 +140,8 @@ fn put_line(b: &mut [u8], s: Line)
     requires { length b.old ≡ line_size }
     ensures { b.new ≡ line_bytes s }
 {
-    put_head(b, s);
-    let kept = s.letters;
-    put_kept(b, &kept);
+    b[..HEAD].copy_from_slice(&head(s));
+    put_kept(b, &s.letters);
 }
 
 // ---- the calls
@@ -178,29 +161,19 @@ pub fn begin(state: &mut [u8]) -> Result<usize, Refusal>
 
 // The next part of a line. Refusals: 10, which leaves every byte; then 1 and 6, which the state keeps. Bytes that spell an unsound
 // state are written back as they were.
-#[tactic(auto, using(p0_choice::proofs::Choices::picks, crate::proofs::Calls::unspelt, crate::proofs::Calls::spelt_room, crate::proofs::Calls::part_answer, crate::proofs::Calls::part_bytes), unfolding(crate::specs::Calls::line_part_on, crate::specs::Calls::line_part_bytes))]
 pub fn part(state: &mut [u8], letters: &[u32]) -> Result<usize, Refusal>
     ensures value { result ≡ line_part_on state.old letters.now }
     ensures state_after { state.new ≡ line_part_bytes state.old letters.now }
 {
-    if !spells(state) {
-        return Err(Refusal::Unsound);
-    }
-    let s = line_of(state);
-    let t = parts::part(s, letters);
-    let line = t.line;
-    put_line(state, line);
-    let a = t.answer;
-    a
+    let s = read(state)?;
+    let after = parts::part(s, letters);
+    put_line(state, after.line);
+    after.answer
 }
 
 // What is told of the letters that have come, at any time. Refusals: 10, then the one that the state keeps.
-#[tactic(auto, using(p0_choice::proofs::Choices::picks, crate::proofs::Calls::unspelt, crate::proofs::Calls::spelt_room, crate::proofs::Calls::checked_answer), unfolding(crate::specs::Calls::line_answer_on))]
 pub fn answer(state: &[u8]) -> Result<Report, Refusal>
     ensures { result ≡ line_answer_on state.now }
 {
-    if !spells(state) {
-        return Err(Refusal::Unsound);
-    }
-    parts::answer(line_of(state))
+    parts::answer(read(state)?)
 }

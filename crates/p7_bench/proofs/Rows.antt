@@ -3,13 +3,12 @@ use Prim.Native.Nat.{ℕ, ◌+◌, ◌≤◌, ◌<◌}
 use mathlib.Core.Path.{◌≡◌, refl, sym, ap, ◌∙◌}
 use mathlib.Core.List.{List, ◌++◌}
 use native.Mathlib.Omega.{arith}
-use native.Mathlib.Nat.{zero-add}
 use native.Mathlib.Numerals.{add-one}
 use lib.Dec.{ltb}
 use borrow.Author.Tests.{ltb-false}
 use lib.ListN.{length, take, drop, get_or, set, length-set, length-append, length-drop}
-use lib.Seq.{paste-suc, take-suc-set, length-take-le, take_all}
-use Rattle.p0_choice.proofs.Choices.{pick_lt, pick_not_lt, pick_eq, pick_ne, pick_both}
+use lib.Seq.{take-suc-set, length-take-le, take_all}
+use Rattle.p0_choice.proofs.Choices.{pick_lt, pick_eq, pick_ne, pick_both}
 use Rattle.p0_choice.specs.Text.{line_end}
 use Rattle.p3_cells.specs.Cells.{limit}
 use Rattle.p7_bench.specs.Run.{after_keys}
@@ -17,33 +16,10 @@ use Rattle.p7_bench.specs.Floor.{Sheet, copied, free_place, longer, lay, blank_s
 use Rattle.p7_bench.proofs.Run.{Run, run_start, run_more, run_end}
 
 -- ---- the copy
-pub record Copying (row d : List ℕ) (n : ℕ) (text : List ℕ) (i : ℕ) : Type 0 where
-  pub within : i ≤ n
-  pub kept : length text ≡ length d
-  pub is : text ≡ take i row ++ drop i d
-
 module _ (row d : List ℕ) (n : ℕ) (w : n ≤ length row) where
   pub copy_short : length d < n → d ≡ copied (take n row) d
   unfolding copied
   copy_short h = rw (length-take-le n row (omega arith)) (pick_lt (length d) n _ _ _ h refl)
-
-  pub copy_more : (text : List ℕ) (i : ℕ) → n ≤ length d → i < n → Copying row d n text i
-      → Copying row d n (set text i (get_or row i 0)) (i + 1)
-  copy_more text i r h c = record {
-    within = omega arith;
-    kept = length-set text i _ ∙ c.kept;
-    is = rw (c.is, add-one) (simp zero-add at (paste-suc d 0 row i 0 (omega arith) (omega arith)));
-  }
-
-  pub copy_end : (text : List ℕ) (i : ℕ) → n ≤ length d → n ≤ i → Copying row d n text i → text ≡ copied (take n row) d
-  unfolding copied
-  copy_end text i r h c =
-      let e : i ≡ n = omega (arith, c.within) in
-      let k : length (take n row) ≡ n = length-take-le n row (omega arith) in
-      rw k (pick_not_lt (length d) n _ _ _ r (rw e at c.is))
-
-pub copy_start : (row d : List ℕ) (n : ℕ) → Copying row d n d 0
-copy_start row d n = record { within = omega arith; kept = refl; is = refl }
 
 -- ---- the row
 pub record Laying (keys d text row : List ℕ) (count i : ℕ) : Type 0 where

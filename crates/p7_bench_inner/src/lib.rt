@@ -13,24 +13,21 @@ use p7_bench::keys::refusals;
 
 // Answers how many keys were refused; the text is what the last other one wrote.
 #[unsafe(no_mangle)]
+#[tactic(auto, using(p7_bench::proofs::Typing::typing, crate::proofs::Sound::fresh_sound, crate::proofs::Sound::typed_sound))]
 pub extern "C" fn pasdrongel_bench_sound_keys(keys: &[u32], text: &mut [u32]) -> usize
     ensures value { result ≡ (after_keys type_key (fresh text.old) keys.now).refused }
     ensures text_after { text.new ≡ (after_keys type_key (fresh text.old) keys.now).text }
 {
     let mut c = calls::new(InputMethod::Telex);
     let mut refused: usize = 0;
-    let mut i: usize = 0;
-    while i < keys.len() {
-        let k = keys[i];
-        i += 1;
-        if k == 0x0a {
+    for k in keys {
+        if *k == 0x0a {
             c = calls::new(InputMethod::Telex);
-            continue;
+        } else {
+            let typed = key::process_sound_key(c, *k, text);
+            refused += refusals(typed.answer);
+            c = typed.comp;
         }
-        let typed = key::process_sound_key(c, k, text);
-        let given = typed.answer;
-        refused += refusals(given);
-        c = typed.comp;
     }
     refused
 }

@@ -1,15 +1,9 @@
-use borrow.Author.Rules.{rules}
-use Rattle.p6_composition.proofs.OneKey.{fill_start, fill_on, fill_done}
-use mathlib.Core.Path.{refl}
+use Rattle.std.proofs.Common.{arith, length-set, ◌∙◌}
+use Rattle.p6_composition.proofs.Filled.{filled_more}
 use Rattle.p6_composition.proofs.fill.Goals as goal
 
-ruleset answers = (rules, fill_start, fill_on, fill_done, refl)
-
-pub loop-i-init : goal.loop-i-init
-loop-i-init c = search answers
-
 pub loop-i-preserved : goal.loop-i-preserved
-loop-i-preserved c = search answers
-
-pub returns : goal.returns
-returns c = search answers
+loop-i-preserved g c = (
+  length-set _ _ _ ∙ c.loop-i.invariant.0,
+  λ h f. filled_more _ _ _ _ _ h (c.loop-i.invariant.1 h f) c.cell.ensures (f _ _ c.number.ensures) (omega arith) (omega arith),
+)

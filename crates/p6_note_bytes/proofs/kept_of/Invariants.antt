@@ -1,4 +1,4 @@
-use Prim.Native.Nat.{◌≤◌, ◌-◌}
+use Prim.Native.Nat.{◌≤◌}
 use mathlib.Core.Path.{◌≡◌}
 use lib.ListN.{length, take}
 use Rattle.p4_spelling.specs.Verdict.{longest_length}
@@ -7,6 +7,3 @@ use Rattle.p6_note_bytes.proofs.kept_of.Given as goal
 
 abbrev pub invariant-loop-i : goal.invariant-loop-i
 invariant-loop-i l = (l.i ≤ longest_length) × (length l.kept ≡ longest_length) × (take l.i l.kept ≡ kept_at l.i l.b kept_start)
-
-abbrev pub decreases-loop-i : goal.decreases-loop-i
-decreases-loop-i l = longest_length - l.i

@@ -1,14 +1,10 @@
-use Prim.Native.Nat.{◌+◌, ◌*◌, ◌-◌, ◌≤◌}
+use Prim.Native.Nat.{◌+◌, ◌*◌}
 use mathlib.Core.Path.{◌≡◌}
 use mathlib.Core.List.{◌++◌}
 use lib.ListN.{length, drop}
-use Rattle.p4_spelling.specs.Verdict.{longest_length}
 use Rattle.p6_note_bytes.specs.Bytes.{kept_start}
 use Rattle.p6_note_bytes.proofs.Writing.{passed}
 use Rattle.p6_note_bytes.proofs.put_kept.Given as goal
 
 abbrev pub invariant-loop-i : goal.invariant-loop-i
-invariant-loop-i l = (l.i ≤ longest_length) × (length l.b ≡ length l.initial.b) × (l.b ≡ passed l.initial.b l.kept l.i ++ drop (kept_start + 2 * l.i) l.initial.b)
-
-abbrev pub decreases-loop-i : goal.decreases-loop-i
-decreases-loop-i l = longest_length - l.i
+invariant-loop-i l = (length l.b ≡ length l.initial.b) × (l.b ≡ passed l.initial.b l.kept l.i ++ drop (kept_start + 2 * l.i) l.initial.b)
