@@ -113,8 +113,11 @@ fn stroke_of(sound: bool, z: Settings, row: &[u32], key: u32, n: usize, room: us
 fn fault(x: Cell) -> u64
     ensures { (eqb result 0 ≡ is_cell x) × (result ≤ 1) }
 {
-    let plain = x.base < 128 && x.mark == 0 && x.tone == 0;
-    u64::from(!(plain || cells::is_cell(x)))
+    // returned at once, which LLVM makes one test of the cell's number
+    if x.base < 128 && x.mark == 0 && x.tone == 0 {
+        return 0;
+    }
+    u64::from(!cells::is_cell(x))
 }
 
 #[tactic(auto, unfolding(crate::specs::Mirror::sound_by))]
