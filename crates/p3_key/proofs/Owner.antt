@@ -79,10 +79,3 @@ owner_right c d key o out b row trusted s t t' i u k r e p q n f l z y h g a v w
     let right : Right c key o e = rw known (stroke_right c key o) in
     let left : d ≡ stroked c e key = y'' ∙ rw (x'', x, m) refl in
     (rw left (λ δ. record { comp = right.comp δ; answer = right.told δ }), y' ∙ rw (left, d') right.out)
-
--- ---- its two callers: one tests, and the other knows that the composition is sound
-pub tests : (c : Composition) → false ≡ true → is_sound c ≡ true
-tests c e = let z : ◌≡◌ {A = ℕ} 0 1 = cc in absurd (omega arith)
-
-pub knows : (c : Composition) → is_sound c ≡ true → true ≡ true → is_sound c ≡ true
-knows c s e = s

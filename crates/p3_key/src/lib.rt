@@ -113,8 +113,11 @@ fn stroke_of(sound: bool, z: Settings, row: &[u32], key: u32, n: usize, room: us
 fn fault(x: Cell) -> u64
     ensures { (eqb result 0 ≡ is_cell x) × (result ≤ 1) }
 {
-    let plain = x.base < 128 && x.mark == 0 && x.tone == 0;
-    u64::from(!(plain || cells::is_cell(x)))
+    // returned at once, which LLVM makes one test of the cell's number
+    if x.base < 128 && x.mark == 0 && x.tone == 0 {
+        return 0;
+    }
+    u64::from(!cells::is_cell(x))
 }
 
 #[tactic(auto, unfolding(crate::specs::Mirror::sound_by))]
@@ -128,8 +131,8 @@ fn is_sound(trusted: bool, n: usize, faults: u64) -> bool
 // numbers, the row with the test of the cells in use, and the text. What the cells in use have of the sum is taken off, and 0 is
 // left where the others are blank: a loop over these alone has no known number of turns. Where it is trusted the tests are
 // compiled away.
-fn compose(mut c: Composition, key: u32, out: &mut [u32], trusted: bool) -> After
-    requires { trusted ≡ true → is_sound c ≡ true }
+fn compose<const TRUSTED: bool>(mut c: Composition, key: u32, out: &mut [u32]) -> After
+    requires { TRUSTED ≡ true → is_sound c ≡ true }
     ensures { (result ≡ keyed c key (length out.old)) × (out.new ≡ output (key_outcome c key) out.old) }
 {
     let n = c.count;
@@ -145,7 +148,7 @@ fn compose(mut c: Composition, key: u32, out: &mut [u32], trusted: bool) -> Afte
         faults += fault(*cell);
         left -= cells::packed(*cell);
     }
-    let sound = is_sound(trusted, n, faults + left);
+    let sound = is_sound(TRUSTED, n, faults + left);
     let e = stroke_of(sound, c.settings, &bases[..used], key, n, out.len());
     let Step {
         change,
@@ -172,7 +175,7 @@ fn compose(mut c: Composition, key: u32, out: &mut [u32], trusted: bool) -> Afte
 pub fn process_key(c: Composition, key: u32, out: &mut [u32]) -> After
     ensures { (result ≡ keyed c key (length out.old)) × (out.new ≡ output (key_outcome c key) out.old) }
 {
-    compose(c, key, out, false)
+    compose::<false>(c, key, out)
 }
 
 // The same without the test of soundness, for a caller that knows it: a loop over keys of our own.
@@ -180,5 +183,5 @@ pub fn process_sound_key(c: Composition, key: u32, out: &mut [u32]) -> After
     requires { is_sound c ≡ true }
     ensures { (result ≡ keyed c key (length out.old)) × (out.new ≡ output (key_outcome c key) out.old) }
 {
-    compose(c, key, out, true)
+    compose::<true>(c, key, out)
 }

@@ -12,17 +12,17 @@ use Rattle.p3_key.proofs.compose.Goals as goal
 
 -- the sum of all cells
 pub loop-cell-init : goal.loop-cell-init
-loop-cell-init c = (omega arith, search sum_none)
+loop-cell-init g c = (omega arith, search sum_none)
 
 pub loop-cell-preserved : goal.loop-cell-preserved
-loop-cell-preserved c = (omega (arith, c.packed-left.ensures.2), search sum_more)
+loop-cell-preserved g c = (omega (arith, c.packed-left.ensures.2), search sum_more)
 
 -- the row, and the cells in use
 pub loop-i-init : goal.loop-i-init
-loop-i-init c = (refl, omega arith, omega arith, fill_none _ _, faults_none _, search sum_all)
+loop-i-init g c = (refl, omega arith, omega arith, fill_none _ _, faults_none _, search sum_all)
 
 pub loop-i-preserved : goal.loop-i-preserved
-loop-i-preserved c =
+loop-i-preserved g c =
     let n : places c.args.c ≡ limit = search length_under in
     let k : length (take c.min-used.result c.args.c.cells) ≡ c.min-used.result = length-take-le c.min-used.result c.args.c.cells (omega arith) in
     let m : c.loop-i.i < c.min-used.result = omega arith in
@@ -36,7 +36,7 @@ loop-i-preserved c =
     )
 
 pub overflow_sub-left : goal.overflow_sub-left
-overflow_sub-left c =
+overflow_sub-left g c =
     let n : places c.args.c ≡ limit = search length_under in
     let k : length (take c.min-used.result c.args.c.cells) ≡ c.min-used.result = length-take-le c.min-used.result c.args.c.cells (omega arith) in
     let m : c.loop-i.i < c.min-used.result = omega arith in
@@ -45,17 +45,17 @@ overflow_sub-left c =
 
 -- the letters
 pub loop-j-init : goal.loop-j-init
-loop-j-init c = (refl, none_in _ _ _ _)
+loop-j-init g c = (refl, none_in _ _ _ _)
 
 pub loop-j-preserved : goal.loop-j-preserved
-loop-j-preserved c = (
+loop-j-preserved g c = (
   simp length-set (search rules),
   more_in _ _ _ _ _ _ _ _ c.loop-j.invariant.1 c.letter_for.ensures c.loop-j-test.true c.stroke_of-e.ensures.4,
 )
 
 -- the return
 pub returns : goal.returns
-returns c =
+returns g c =
     let n : places c.args.c ≡ limit = search length_under in
     let k : length (take c.min-used.result c.args.c.cells) ≡ c.min-used.result = length-take-le c.min-used.result c.args.c.cells (omega arith) in
     let z : c.min-used.result - 0 ≡ c.min-used.result = omega arith in
