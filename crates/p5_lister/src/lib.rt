@@ -28,7 +28,7 @@ const NO_LETTER: u32 = u32::MAX;
 
 const MANY: usize = 65536;
 
-// What the table says of a node, as one number.
+// What the table says of a node, as one number, so that the table has four bytes a node: the panel's image is nearly full.
 #[derive(Clone, Copy)]
 struct Entry {
     bits: u32,
