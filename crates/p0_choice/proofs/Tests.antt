@@ -1,13 +1,12 @@
 -- Tests of two things, and of each of a list, taken apart and put together.
-use Prim.Native.Nat.{ℕ, zero, suc, ◌+◌, ◌-◌, ◌<◌, ◌≤◌}
-use mathlib.Core.Path.{◌≡◌, refl, sym, ◌∙◌}
-use mathlib.Core.Bool.{Bool, true, false, not}
+use Prim.Native.Nat.{ℕ, zero, suc, ◌+◌, ◌<◌, ◌≤◌}
+use mathlib.Core.Path.{◌≡◌, refl}
+use mathlib.Core.Bool.{Bool, true, false}
 use mathlib.Core.List.{List, [], ◌∷◌, ◌++◌}
 use mathlib.Core.Logic.{◌⊎◌, inl, inr}
 use native.Mathlib.Omega.{arith}
 use lib.Dec.{T}
 use lib.ListN.{length, get_or, take, set}
-use borrow.Author.Tests.{not-true, not-false}
 use Rattle.p0_choice.specs.Choice.{pick, each, from}
 
 pub both_are : (a b : Bool) → pick a b false ≡ true → (a ≡ true) × (b ≡ true)
@@ -32,29 +31,6 @@ holds b e = rw e tt
 pub each_from : (p : ℕ → Bool) (n i : ℕ) → ((j : ℕ) → i ≤ j → j < i + n → p j ≡ true) → each p (from n i) ≡ true
 each_from p zero i f = refl
 each_from p (suc n) i f = rw (f i (omega arith) (omega arith)) (each_from p n (suc i) (λ j l h. f j (omega arith) (omega arith)))
-
--- a loop that tests n numbers one by one: w is the test of them all, and what is left of them decides it
-module _ (p : ℕ → Bool) (n : ℕ) (w : Bool) where
-  pub each_start : w ≡ each p (from n 0) → w ≡ each p (from (n - 0) 0)
-  each_start e = let d : n - 0 ≡ n = omega arith in rw d e
-
-  module _ (i : ℕ) (e : w ≡ each p (from (n - i) i)) where
-    turn : i < n → w ≡ pick (p i) (each p (from (n - (i + 1)) (i + 1))) false
-    turn h =
-        let d : n - i ≡ suc (n - (i + 1)) = omega arith in
-        let s : i + 1 ≡ suc i = omega arith in
-        e ∙ rw (d, s) refl
-
-    pub each_bad : (v : Bool) → i < n → v ≡ p i → not v ≡ true → false ≡ w
-    each_bad v h q t = sym (turn h ∙ rw (← q, not-true v t) refl)
-
-    pub each_on : (v : Bool) → i < n → v ≡ p i → not v ≡ false → w ≡ each p (from (n - (i + 1)) (i + 1))
-    each_on v h q t = turn h ∙ rw (← q, not-false v t) refl
-
-    pub each_done : n ≤ i → true ≡ w
-    each_done h = let d : n - i ≡ 0 = omega arith in sym (e ∙ rw d refl)
-
-pub ruleset tested = (each_start, each_bad, each_on, each_done)
 
 -- ---- each of a list, by its places, and after a change
 module _ {A : Type 0} (p : A → Bool) where

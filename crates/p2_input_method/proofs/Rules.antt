@@ -1,4 +1,4 @@
--- A method's arm; then what every tone key and every rule's result passes.
+-- What every tone key and every rule's result passes.
 use Prim.Native.Nat.{ℕ}
 use mathlib.Core.Path.{◌≡◌}
 use mathlib.Core.Bool.{Bool, true, false}
@@ -10,13 +10,6 @@ use Rattle.p2_input_method.specs.Rules.{mark_rules, mark_in, mark_for, tone_keys
 use Rattle.p2_input_method.specs.declared.InputMethod.{InputMethod}
 use Rattle.p2_input_method.specs.declared.MarkRule.{MarkRule}
 use Rattle.p2_input_method.specs.declared.InputMethod.TheVariants.{Telex, Vni}
-
--- ---- a method's arm
-pub by_telex : {A : Type 0} (f : InputMethod → ℕ → A) (m : InputMethod) (k : ℕ) (r : A) → m ≡ Telex → r ≡ f Telex k → r ≡ f m k
-by_telex f m k r e q = rw e q
-
-pub by_vni : {A : Type 0} (f : InputMethod → ℕ → A) (m : InputMethod) (k : ℕ) (r : A) → m ≡ Vni → r ≡ f Vni k → r ≡ f m k
-by_vni f m k r e q = rw e q
 
 -- ---- what every tone key passes
 pub tone_key_passes : (p : ℕ → Bool) → T (each p (tone_keys Telex)) → T (each p (tone_keys Vni)) → (m : InputMethod) (k : ℕ)

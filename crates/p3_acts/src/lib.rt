@@ -13,9 +13,12 @@ pub fn acts(m: InputMethod, k: u32) -> bool
     ensures { result ≡ acts_of m k }
 {
     match m {
-        InputMethod::Telex => {
-            matches!(k, 97 | 100 | 101 | 102 | 106 | 111 | 114 | 115 | 119 | 120)
-        }
+        // Neighbours stand in arms of their own: in one they would be a range, whose test comes after that of the others.
+        InputMethod::Telex => match k {
+            97 | 100 | 102 | 106 | 111 | 114 | 119 => true,
+            101 | 115 | 120 => true,
+            _ => false,
+        },
         InputMethod::Vni => matches!(k, 49..=57),
     }
 }

@@ -24,12 +24,6 @@ pub plain_fault : (x : Cell) → x.base < 128 → x.mark ≡ 0 → x.tone ≡ 0 
 unfolding in_alphabet
 plain_fault x b m t = sym (is_cell_lem x (record { base = rw (lt-ltb x.base 0x80 b) refl; mark = inl m; tone = inl t }))
 
-pub cell_fault : (x : Cell) (v : Bool) → v ≡ is_cell x → v ≡ true → eqb 0 0 ≡ is_cell x
-cell_fault x v e t = sym (sym e ∙ t)
-
-pub other_fault : (x : Cell) (v : Bool) → v ≡ is_cell x → v ≡ false → eqb 1 0 ≡ is_cell x
-other_fault x v e t = sym (sym e ∙ t)
-
 -- ---- the sum of faults, t, up to the place i: with what stands from there on it says whether every cell fits
 unfoldable pub faults_by : Composition → ℕ → ℕ → Bool
 faults_by c t i = pick (eqb t 0) (fits_from c i) false

@@ -1,29 +1,28 @@
 -- What the owner knows where it returns, and that its composition, answer and output are then those of the key call.
-use Prim.Native.Nat.{ℕ, ◌+◌, ◌-◌, ◌<◌, ◌≤◌, min}
+use Prim.Native.Nat.{ℕ, ◌+◌, ◌-◌, ◌≤◌, min}
 use mathlib.Core.Path.{◌≡◌, refl, ap, ◌∙◌}
 use mathlib.Core.Bool.{Bool, true, false}
 use mathlib.Core.List.{List}
 use native.Mathlib.Omega.{arith}
-use lib.ListN.{length, take, drop, set, length-set}
+use lib.ListN.{length, take, drop}
 use Rattle.p1_letters.specs.Alphabet.{ascii_lower}
 use Rattle.p0_refusals.specs.Answers.{output}
 use Rattle.p3_cells.specs.Cells.{limit, is_sound, used}
 use Rattle.p3_cells.specs.Leaving.{leaving}
 use Rattle.p3_cells.specs.declared.Cell.{Cell}
 use Rattle.p3_cells.specs.declared.Composition.{Composition}
-use Rattle.p3_cells.specs.declared.Settings.{Settings}
 use Rattle.p3_cells.proofs.Holding.{count_fits}
 use Rattle.p3_cells.proofs.SoundTest.{fits_from}
 use Rattle.p3_cells.specs.Row.{bases}
-use Rattle.p3_cells.specs.Mirror.{cell_of, with_cell, with_count, row_cells, places}
+use Rattle.p3_cells.specs.Mirror.{with_cell, with_count, row_cells, places}
 use Rattle.p3_cells.proofs.Fill.{Filled, filled}
 use Rattle.p3_step.specs.Mirror.{put, also_put}
 use Rattle.p3_step.proofs.Makes.{stepped}
 use Rattle.p3_key.specs.Process.{key_outcome, keyed}
-use Rattle.p3_key.specs.Mirror.{sound_by, letter_for, stroke_of}
+use Rattle.p3_key.specs.Mirror.{sound_by, stroke_of}
 use Rattle.p3_key.specs.declared.Stroke.{Stroke}
 use Rattle.p3_key.proofs.Faults.{faults_by, sum_from, faults_sound}
-use Rattle.p3_key.proofs.Letters.{letters_to, letters_more}
+use Rattle.p3_key.proofs.Letters.{letters_to}
 use Rattle.p3_key.proofs.Right.{stroked, Right, stroke_right}
 
 -- a sound composition's row is that of its cells in use
@@ -64,12 +63,6 @@ stroke_known c key o b trusted s t w i u e n f l p q h g k m r =
 abbrev Stored : Composition → Stroke → Cell → Cell → Composition → Type 0
 Stored c e q p d = d ≡ with_count (with_cell (with_cell c e.step.also q) e.step.at p) e.step.count
 
-pub letters_stored : (z : Settings) (key : ℕ) (c d : Composition) (e : Stroke) (q p : Cell) (o out : List ℕ) (j v : ℕ)
-    → places c ≡ limit → Stored c e q p d → out ≡ letters_to z key d j o → v ≡ letter_for z key (cell_of d j)
-    → j < e.letters → e.letters ≤ limit → e.letters ≤ length o → set out j v ≡ letters_to z key d (j + 1) o
-letters_stored z key c d e q p o out j v l g h f t r r' =
-    letters_more z key d o out j v h f (rw (g, length-set, length-set, l) (omega arith)) (omega arith)
-
 -- ---- the return; the row is what was lent
 pub owner_right : (c d : Composition) (key : ℕ) (o out b row : List ℕ) (trusted s : Bool) (t t' i u k r : ℕ) (e : Stroke) (p q : Cell)
     → places c ≡ limit → fits_from c 0 ≡ faults_by c t i → t' ≡ sum_from c i
@@ -86,10 +79,3 @@ owner_right c d key o out b row trusted s t t' i u k r e p q n f l z y h g a v w
     let right : Right c key o e = rw known (stroke_right c key o) in
     let left : d ≡ stroked c e key = y'' ∙ rw (x'', x, m) refl in
     (rw left (λ δ. record { comp = right.comp δ; answer = right.told δ }), y' ∙ rw (left, d') right.out)
-
--- ---- its two callers: one tests, and the other knows that the composition is sound
-pub tests : (c : Composition) → false ≡ true → is_sound c ≡ true
-tests c e = let z : ◌≡◌ {A = ℕ} 0 1 = cc in absurd (omega arith)
-
-pub knows : (c : Composition) → is_sound c ≡ true → true ≡ true → is_sound c ≡ true
-knows c s e = s

@@ -11,7 +11,7 @@ ghost use Rattle.p3_cells.specs.Mirror.{row_cells};
 ghost use Rattle.p3_key.specs.Process.{key_outcome, keyed};
 ghost use Rattle.p3_key.specs.Mirror.{sound_by, letter_for, stays, no_stroke, step_stroke, pass_stroke, stroke_of};
 
-use p0_refusals::{Refusal};
+use p0_refusals::Refusal;
 use p1_letters as letters;
 use p3_cells as cells;
 use p3_cells::{After, Cell, Composition, LIMIT, Mode, Settings};
@@ -28,11 +28,11 @@ pub struct Stroke {
 
 // ---- the letters and the refusals
 
+#[tactic(auto, unfolding(crate::specs::Mirror::letter_for))]
 fn letter_for(z: Settings, key: u32, x: Cell) -> u32
     ensures { result ≡ letter_for z key x }
 {
-    let o = z.mode;
-    match o {
+    match z.mode {
         Mode::Vietnamese => cells::shown(z.capitals, x),
         Mode::English => key,
     }
@@ -49,8 +49,8 @@ fn stay(n: usize, letters: usize, answer: Result<usize, Refusal>) -> Stroke
             also: 0,
             count: n,
         },
-        letters: letters,
-        answer: answer,
+        letters,
+        answer,
     }
 }
 
@@ -60,6 +60,7 @@ fn refuse(r: Refusal, n: usize) -> Stroke
     stay(n, 0, Err(r))
 }
 
+#[tactic(auto, unfolding(crate::specs::Mirror::step_stroke))]
 fn step_stroke(s: Step, n: usize, room: usize) -> Stroke
     ensures { result ≡ step_stroke s n room }
 {
@@ -77,6 +78,7 @@ fn step_stroke(s: Step, n: usize, room: usize) -> Stroke
     }
 }
 
+#[tactic(auto, unfolding(crate::specs::Mirror::pass_stroke))]
 fn pass_stroke(n: usize, room: usize) -> Stroke
     ensures { result ≡ pass_stroke n room }
 {
@@ -97,8 +99,7 @@ fn stroke_of(sound: bool, z: Settings, row: &[u32], key: u32, n: usize, room: us
     if !letters::in_alphabet(key) {
         return refuse(Refusal::Foreign, n);
     }
-    let o = z.mode;
-    match o {
+    match z.mode {
         Mode::Vietnamese => {
             let s = step::first_step(z, row, letters::ascii_lower(key));
             step_stroke(s, n, room)
@@ -108,101 +109,73 @@ fn stroke_of(sound: bool, z: Settings, row: &[u32], key: u32, n: usize, room: us
 }
 
 // ---- soundness, without a way out of a loop: 0 for a cell in use that is as soundness asks. Most are ASCII letters alone.
+#[tactic(auto, using(crate::proofs::Faults::plain_fault))]
 fn fault(x: Cell) -> u64
     ensures { (eqb result 0 ≡ is_cell x) × (result ≤ 1) }
 {
-    if x.base < 128 {
-        if x.mark == 0 {
-            if x.tone == 0 {
-                return 0;
-            }
-        }
-    }
-    if cells::is_cell(x) {
+    // returned at once, which LLVM makes one test of the cell's number
+    if x.base < 128 && x.mark == 0 && x.tone == 0 {
         return 0;
     }
-    1
+    u64::from(!cells::is_cell(x))
 }
 
-fn at_most(n: usize) -> usize
-    ensures { result ≡ min n limit }
-{
-    if n < LIMIT {
-        return n;
-    }
-    LIMIT
-}
-
+#[tactic(auto, unfolding(crate::specs::Mirror::sound_by))]
 fn is_sound(trusted: bool, n: usize, faults: u64) -> bool
     ensures { result ≡ sound_by trusted n faults }
 {
-    if trusted {
-        return true;
-    }
-    if LIMIT < n {
-        return false;
-    }
-    faults == 0
+    trusted || (n <= LIMIT && faults == 0)
 }
 
 // The owner. Its three loops stand here because a function that is handed the composition copies it: the sum of all cells as
 // numbers, the row with the test of the cells in use, and the text. What the cells in use have of the sum is taken off, and 0 is
 // left where the others are blank: a loop over these alone has no known number of turns. Where it is trusted the tests are
 // compiled away.
-fn compose(mut c: Composition, key: u32, out: &mut [u32], trusted: bool) -> After
-    requires { trusted ≡ true → is_sound c ≡ true }
+fn compose<const TRUSTED: bool>(mut c: Composition, key: u32, out: &mut [u32]) -> After
+    requires { TRUSTED ≡ true → is_sound c ≡ true }
     ensures { (result ≡ keyed c key (length out.old)) × (out.new ≡ output (key_outcome c key) out.old) }
 {
     let n = c.count;
-    let used = at_most(n);
+    let used = n.min(LIMIT);
     let mut left: u64 = 0;
-    let mut all: usize = 0;
-    while all < LIMIT {
-        let x = c.cells[all];
-        left += cells::packed(x);
-        all += 1;
+    for cell in &c.cells {
+        left += cells::packed(*cell);
     }
-    let mut bases = [0u32; LIMIT];
+    let mut bases = [0; LIMIT];
     let mut faults: u64 = 0;
-    let mut i: usize = 0;
-    while i < used {
-        let x = c.cells[i];
-        bases[i] = x.base;
-        faults += fault(x);
-        left -= cells::packed(x);
-        i += 1;
+    for (i, cell) in c.cells[..used].iter().enumerate() {
+        bases[i] = cell.base;
+        faults += fault(*cell);
+        left -= cells::packed(*cell);
     }
-    let sound = is_sound(trusted, n, faults + left);
-    let z = c.settings;
-    let e = stroke_of(sound, z, &bases[0..used], key, n, out.len());
-    let s = e.step;
-    let change = s.change;
-    let at = s.at;
-    let also = s.also;
+    let sound = is_sound(TRUSTED, n, faults + left);
+    let e = stroke_of(sound, c.settings, &bases[..used], key, n, out.len());
+    let Step {
+        change,
+        at,
+        also,
+        count,
+    } = e.step;
     let y = c.cells[also];
     let p = step::put_cell(change, c.cells[at], y, key, letters::ascii_lower(key));
-    c.cells[also] = step::also_cell(change, z.capitals, y);
+    c.cells[also] = step::also_cell(change, c.settings.capitals, y);
     c.cells[at] = p;
-    c.count = s.count;
+    c.count = count;
     // read where they lie, which costs less than to keep them over the step
-    let w = c.settings;
-    let count = e.letters;
-    let mut j: usize = 0;
-    while j < count {
-        out[j] = letter_for(w, key, c.cells[j]);
-        j += 1;
+    let z = c.settings;
+    for (j, cell) in c.cells[..e.letters].iter().enumerate() {
+        out[j] = letter_for(z, key, *cell);
     }
-    let answer = e.answer;
     After {
         comp: c,
-        answer: answer,
+        answer: e.answer,
     }
 }
 
 pub fn process_key(c: Composition, key: u32, out: &mut [u32]) -> After
     ensures { (result ≡ keyed c key (length out.old)) × (out.new ≡ output (key_outcome c key) out.old) }
 {
-    compose(c, key, out, false)
+    compose::<false>(c, key, out)
 }
 
 // The same without the test of soundness, for a caller that knows it: a loop over keys of our own.
@@ -210,5 +183,5 @@ pub fn process_sound_key(c: Composition, key: u32, out: &mut [u32]) -> After
     requires { is_sound c ≡ true }
     ensures { (result ≡ keyed c key (length out.old)) × (out.new ≡ output (key_outcome c key) out.old) }
 {
-    compose(c, key, out, true)
+    compose::<true>(c, key, out)
 }

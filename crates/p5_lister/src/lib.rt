@@ -79,7 +79,7 @@ struct Halt {
 }
 
 // The first node from `from` on, in its row, whose letter is y or more or through which more than `left` words go. Of all
-// functions this one reads the table.
+// functions this one reads the table. A row's place is a plain number: a type for it would be taken apart at each step.
 fn scan(from: usize, y: u32, most: usize) -> Option<Halt>
     requires { from ≤ node_count }
     ensures { MatchOption result (PassedAll from y most) (λ h. HaltsAt from y most h.node h.left h.entry.bits) }
@@ -101,33 +101,33 @@ fn scan(from: usize, y: u32, most: usize) -> Option<Halt>
     None
 }
 
-// A word: the first `len` letters.
+// A word: the first `len` letters (no heap: an array with a length).
 #[derive(Clone, Copy)]
 struct Spelled {
     len: usize,
     letters: [u32; LONGEST],
 }
 
-// The first `at` letters of `kept`, and after them word n of the nodes from `from` on.
-fn spell(from: usize, kept: [u32; LONGEST], at: usize, n: usize) -> Spelled
-    requires { (from ≤ node_count) × (n < trie_size (trie_at nodes from)) × (at + depth (trie_at nodes from) ≤ longest_length) }
-    ensures { (result.len ≤ longest_length) × (take result.len result.letters ≡ take at kept ++ nth (trie_at nodes from) n) }
+// The letters that are kept, and after them word n of the nodes from `from` on.
+fn spell(from: usize, kept: Spelled, n: usize) -> Spelled
+    requires { (from ≤ node_count) × (n < trie_size (trie_at nodes from)) × (kept.len + depth (trie_at nodes from) ≤ longest_length) }
+    ensures { (result.len ≤ longest_length)
+        × (take result.len result.letters ≡ take kept.len kept.letters ++ nth (trie_at nodes from) n) }
 {
-    let mut letters = kept;
-    let mut len = at;
+    let mut word = kept;
     let mut row = from;
     let mut left = n;
     while let Some(halt) = scan(row, NO_LETTER, left) {
-        letters[len] = halt.entry.letter();
-        len += 1;
+        word.letters[word.len] = halt.entry.letter();
+        word.len += 1;
         let ends = halt.entry.ends();
         if halt.left < ends {
-            return Spelled { len, letters };
+            return word;
         }
         left = halt.left - ends;
         row = halt.entry.down();
     }
-    Spelled { len, letters }
+    word
 }
 
 // Where the next word parts from a word: after `at` letters, to the first word of the node.
@@ -174,13 +174,13 @@ fn turn(root: usize, word: &[u32]) -> Option<Parting>
 }
 
 // The first n letters of the word.
-fn keep(word: &[u32], n: usize) -> [u32; LONGEST]
+fn keep(word: &[u32], n: usize) -> Spelled
     requires { (n ≤ longest_length) × (n ≤ length word.now) }
-    ensures { take n result ≡ take n word.now }
+    ensures { (result.len ≡ n) × (take n result.letters ≡ take n word.now) }
 {
-    let mut out = [0; LONGEST];
-    out[..n].copy_from_slice(&word[..n]);
-    out
+    let mut letters = [0; LONGEST];
+    letters[..n].copy_from_slice(&word[..n]);
+    Spelled { len: n, letters }
 }
 
 // Gives the word, if there is room for it.
@@ -212,7 +212,8 @@ pub fn word_number(n: usize, out: &mut [u32]) -> Result<usize, Refusal>
     if TOTAL <= n {
         return Err(Refusal::NoWord);
     }
-    let word = spell(table::ROOT, [0; LONGEST], 0, n);
+    let none = keep(&[], 0);
+    let word = spell(table::ROOT, none, n);
     give(&word, out)
 }
 
@@ -229,6 +230,6 @@ pub fn next_word(word: &[u32], out: &mut [u32]) -> Result<usize, Refusal>
     }
     let parting = turn(table::ROOT, word).ok_or(Refusal::NoWord)?;
     let kept = keep(word, parting.at);
-    let next = spell(parting.node, kept, parting.at, 0);
+    let next = spell(parting.node, kept, 0);
     give(&next, out)
 }

@@ -22,9 +22,6 @@ pub record Spell (t : Table) (limit : ℕ) (v out : List ℕ) (len e k : ℕ) : 
   pub is : take len out ++ nth (trie_at t e) k ≡ v
 
 module _ {t : Table} {limit : ℕ} {v out : List ℕ} {len e k : ℕ} (q : Spell t limit v out len e k) where
-  pub some_node : t.count ≤ e → ⊥
-  some_node h = omega (arith, q.few, ap trie_size (at_none t e h), size_none)
-
   -- a scan from there stops at node b
   module _ (s : Sound t) {y b rest : ℕ} (p : Passed t e y k b rest) where
     few_there : rest < trie_size (trie_at t b)

@@ -30,7 +30,7 @@ use Rattle.p3_key.specs.Process.{key_outcome, keyed}
 use Rattle.p3_key.specs.Mirror.{letter_for, no_stroke, wrote, wrote_key, pass_stroke, step_stroke, stroke_of}
 use Rattle.p3_key.specs.declared.Stroke.{Stroke}
 use Rattle.p3_key.proofs.Frame.{english_stays}
-use Rattle.p3_key.proofs.Letters.{letter_key, letters_to, no_letters_yet}
+use Rattle.p3_key.proofs.Letters.{letter_key, letters_to}
 use Rattle.p3_key.proofs.Right.{stroked, Right, stroke_right, letters_vietnamese}
 use Rattle.p3_key.proofs.Strokes.{step_full, step_short, step_done, stroke_foreign, stroke_step, stroke_pass}
 use Rattle.p3_step.specs.Key.{key_cells}
@@ -100,6 +100,10 @@ all_letters_lem : (key : ℕ) (c : Composition) (n : ℕ) (o : List ℕ) → c.s
     → first_text c n ++ drop n o ≡ letters_to c.settings key c n o
 unfolding letters_to
 all_letters_lem key c n o e = ap (λ (l : List ℕ). l ++ drop n o) (sym (letters_vietnamese c.settings key (first_cells c n) e))
+
+no_letters_yet : (z : Settings) (key : ℕ) (c : Composition) (o : List ℕ) → o ≡ letters_to z key c 0 o
+unfolding letters_to
+no_letters_yet z key c o = refl
 
 -- ---- what is told and left, where the key's stroke is e
 module _ (b : List ℕ) (s : bytes_sound b ≡ true) (key : ℕ) (o : List ℕ) where

@@ -6,19 +6,11 @@ ghost use Rattle.p6_draft.specs.Draft.{draft_cells, Reading, Means};
 ghost use Rattle.p6_draft.specs.Mirror.{draft_head, draft_start, put_at, draft_composition, is_draft};
 ghost use Rattle.p6_draft_calls.specs.Calls.{draft_outcome, read_to};
 
+use crate::cells::put_cells;
 use p0_refusals::Refusal;
 use p3_cells as cells;
 use p3_cells::{After, Composition};
 use p6_draft as form;
-
-fn put_cells(c: Composition, draft: &mut [u8])
-    requires { (c.count ≤ limit) × (draft_start c.count ≤ length draft.old) }
-    ensures { draft.new ≡ put_at draft_head (draft_cells (used c)) draft.old }
-{
-    for i in 0..c.count {
-        form::put_cell(draft, i, c.cells[i]);
-    }
-}
 
 // The draft of a composition, from the start of an output. Refusals: 10, then 3; the output then stays as it was.
 pub fn write(c: Composition, draft: &mut [u8]) -> Result<usize, Refusal>
@@ -35,7 +27,7 @@ pub fn write(c: Composition, draft: &mut [u8]) -> Result<usize, Refusal>
     }
     let z = c.settings;
     form::put_head(draft, z.method as u8, z.mode as u8, n);
-    put_cells(c, draft);
+    put_cells(n, |i| c.cells[i], draft);
     form::put_tail(draft, u8::from(z.capitals), n);
     Ok(m)
 }

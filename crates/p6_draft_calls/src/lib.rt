@@ -3,4 +3,5 @@
 #![tactic(auto)]
 
 pub mod by_value;
+pub mod cells;
 pub mod on_bytes;

@@ -8,22 +8,12 @@ ghost use Rattle.p6_draft.specs.Draft.{draft_cells, Reading, Means};
 ghost use Rattle.p6_draft.specs.Mirror.{draft_head, draft_start, put_at, draft_composition, is_draft};
 ghost use Rattle.p6_draft_calls.specs.Calls.{bytes_outcome, read_on, read_bytes};
 
+use crate::cells::put_cells;
 use p0_refusals::Refusal;
 use p6_bytes as bytes;
 use p6_bytes::SIZE;
 use p6_draft as form;
 use p6_zeros as zeros;
-
-// The first n cells.
-fn put_cells_on(b: &[u8; SIZE], n: usize, draft: &mut [u8])
-    requires { (n ≤ limit) × (draft_start n ≤ length draft.old) }
-    ensures { draft.new ≡ put_at draft_head (draft_cells (first_cells (composition_of b.now) n))
-        draft.old }
-{
-    for i in 0..n {
-        form::put_cell(draft, i, bytes::cell(b, i));
-    }
-}
 
 // The draft of a composition, from the start of an output. Refusals: 10, then 3; the output then stays as it was.
 pub fn write_on(state: &[u8], draft: &mut [u8]) -> Result<usize, Refusal>
@@ -39,7 +29,7 @@ pub fn write_on(state: &[u8], draft: &mut [u8]) -> Result<usize, Refusal>
         return Err(Refusal::Short);
     }
     form::put_head(draft, state[0], state[1], n);
-    put_cells_on(state, n, draft);
+    put_cells(n, |i| bytes::cell(state, i), draft);
     form::put_tail(draft, state[3], n);
     Ok(m)
 }

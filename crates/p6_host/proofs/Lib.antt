@@ -1,3 +1,4 @@
+pub mod Asked
 pub mod Demand1
 pub mod Header
 pub mod LetterCalls

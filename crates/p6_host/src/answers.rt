@@ -18,7 +18,7 @@ pub fn tell(given: Result<usize, Refusal>, count: &mut usize) -> u32
     }
 }
 
-// The same of an undo: 0 for append, 1 for consume.
+// The same of an undo: 0 for append, 1 for consume. Each `tell` writes its own lent places from its own answer: a closure that does is as long.
 pub fn tell_behaviour(given: Result<usize, Refusal>, behaviour: &mut u32) -> u32
     ensures { (result ≡ refusal_of given) × (behaviour.new ≡ behaviour_out given behaviour.old) }
 {

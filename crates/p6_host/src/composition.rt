@@ -1,9 +1,10 @@
 // A composition, in bytes of the host (port order 3); docs/BYTES.md states their order.
-ghost use Rattle.std.specs.Prelude.{◌≡◌, length};
+ghost use Rattle.std.specs.Fn.{FnReturnsAt};
+ghost use Rattle.std.specs.Prelude.{◌≡◌, true, false, length};
 ghost use Rattle.p0_refusals.specs.Answers.{refusal_of};
 ghost use Rattle.p3_calls.specs.Output.{text_outcome, removal_outcome};
 ghost use Rattle.p3_key.specs.Process.{key_outcome};
-ghost use Rattle.p6_bytes.specs.Bytes.{size, method_byte, mode_byte, flag_byte, composition_of};
+ghost use Rattle.p6_bytes.specs.Bytes.{size, method_byte, mode_byte, flag_byte, composition_of, bytes_sound};
 ghost use Rattle.p6_composition.specs.Calls.{answer_on, bytes_on, out_on, key_on, reset_on, literal_on, removal_on, undo_on, method_on, mode_on};
 ghost use Rattle.p6_composition.specs.Calls.{capitals_on, text_on, new_on, new_bytes};
 ghost use Rattle.p6_host.specs.Counts.{count_out, behaviour_out};
@@ -11,6 +12,7 @@ ghost use Rattle.p6_host.specs.CompositionCalls.{sound_code, sound_out};
 
 use crate::answers::{tell, tell_behaviour};
 use p0_refusals::{Refusal, refusal_of};
+use p6_bytes::SIZE;
 
 // How many bytes a composition takes: this is returned, and nothing is refused.
 #[unsafe(no_mangle)]
@@ -40,59 +42,54 @@ pub extern "C" fn pasdrongel_check_composition(state: &[u8]) -> u32
     u32::from(Refusal::Unsound)
 }
 
+// Writes what a composition is asked, unless the bytes spell none.
+#[tactic(auto, unfolding(crate::specs::CompositionCalls::sound_code))]
+fn ask<T: Copy, F: Fn(&[u8; SIZE]) -> T>(state: &[u8], question: F, place: &mut T) -> u32
+    requires { F.IsAlwaysCallable question }
+    ensures code { result ≡ sound_code state.now }
+    ensures unsound { bytes_sound state.now ≡ false → place.new ≡ place.old }
+    ensures sound { bytes_sound state.now ≡ true → FnReturnsAt F.Fn question state.now place.new }
+{
+    let Some(composition) = p6_bytes::checked(state) else {
+        return u32::from(Refusal::Unsound);
+    };
+    *place = question(composition);
+    0
+}
+
 #[unsafe(no_mangle)]
-#[tactic(auto, unfolding(crate::specs::CompositionCalls::sound_code, crate::specs::CompositionCalls::sound_out))]
 pub extern "C" fn pasdrongel_method(state: &[u8], method: &mut u32) -> u32
     ensures { (result ≡ sound_code state.now)
         × (method.new ≡ sound_out state.now (method_byte (composition_of state.now).settings.method)
         method.old) }
 {
-    let Some(composition) = p6_bytes::checked(state) else {
-        return u32::from(Refusal::Unsound);
-    };
-    *method = p6_bytes::method_number(composition);
-    0
+    ask(state, p6_bytes::method_number, method)
 }
 
 #[unsafe(no_mangle)]
-#[tactic(auto, unfolding(crate::specs::CompositionCalls::sound_code, crate::specs::CompositionCalls::sound_out))]
 pub extern "C" fn pasdrongel_mode(state: &[u8], mode: &mut u32) -> u32
     ensures { (result ≡ sound_code state.now)
         × (mode.new ≡ sound_out state.now (mode_byte (composition_of state.now).settings.mode)
         mode.old) }
 {
-    let Some(composition) = p6_bytes::checked(state) else {
-        return u32::from(Refusal::Unsound);
-    };
-    *mode = p6_bytes::mode_number(composition);
-    0
+    ask(state, p6_bytes::mode_number, mode)
 }
 
 #[unsafe(no_mangle)]
-#[tactic(auto, unfolding(crate::specs::CompositionCalls::sound_code, crate::specs::CompositionCalls::sound_out))]
 pub extern "C" fn pasdrongel_capitals(state: &[u8], on: &mut u32) -> u32
     ensures { (result ≡ sound_code state.now)
         × (on.new ≡ sound_out state.now (flag_byte (composition_of state.now).settings.capitals)
         on.old) }
 {
-    let Some(composition) = p6_bytes::checked(state) else {
-        return u32::from(Refusal::Unsound);
-    };
-    *on = p6_bytes::capitals_number(composition);
-    0
+    ask(state, p6_bytes::capitals_number, on)
 }
 
 #[unsafe(no_mangle)]
-#[tactic(auto, unfolding(crate::specs::CompositionCalls::sound_code, crate::specs::CompositionCalls::sound_out))]
 pub extern "C" fn pasdrongel_count(state: &[u8], count: &mut usize) -> u32
     ensures { (result ≡ sound_code state.now)
         × (count.new ≡ sound_out state.now (composition_of state.now).count count.old) }
 {
-    let Some(composition) = p6_bytes::checked(state) else {
-        return u32::from(Refusal::Unsound);
-    };
-    *count = p6_bytes::cell_count(composition);
-    0
+    ask(state, p6_bytes::cell_count, count)
 }
 
 #[unsafe(no_mangle)]

@@ -11,6 +11,7 @@ use p3_calls as calls;
 use p3_key as key;
 use p7_bench::keys::refusals;
 
+// As p7_bench::keys, whose loop asks no soundness of the composition at hand: a shared one would carry it in its contract for both.
 // Answers how many keys were refused; the text is what the last other one wrote.
 #[unsafe(no_mangle)]
 #[tactic(auto, using(p7_bench::proofs::Typing::typing, crate::proofs::Sound::fresh_sound, crate::proofs::Sound::typed_sound))]

@@ -1,6 +1,6 @@
 -- How the code holds things: no sentence of document 01 stands here, and no promise to a host leads here.
 -- The turns of the program: a read, and what its bytes hold and print.
-use Rattle.std.specs.Prelude.{ℕ, min, ◌≡◌, Bool, true, false, List, [], eqb, ℤ, pos, negsuc, take, Option, None, Some, Result, Ok, Err}
+use Rattle.std.specs.Prelude.{ℕ, min, ◌≡◌, Bool, true, false, List, [], eqb, ℤ, pos, negsuc, take, Option, None, Some, Result, Ok, Err, is_ok}
 use Rattle.std.specs.IoError.{raw_os_error}
 use Rattle.std.specs.declared.io.Error.{Error}
 use Rattle.p0_choice.specs.Choice.{pick}
@@ -14,21 +14,21 @@ use Rattle.p7_wordline.specs.declared.Took.{Took}
 
 -- What a read into a part of n bytes gave, by its answer and, where that is an error, by the number of the error: 4, EINTR,
 -- for one that a signal cut short. Only an answer of 0 is the end of the input.
-unfoldable pub failure : Option ℤ → Input
-failure None = Failed
-failure (Some (pos k)) = pick (eqb k 4) Interrupted Failed
-failure (Some (negsuc k)) = Failed
+unfoldable pub failure : Error → Option ℤ → Input
+failure error None = Failed error
+failure error (Some (pos k)) = pick (eqb k 4) Interrupted (Failed error)
+failure error (Some (negsuc k)) = Failed error
 
 unfoldable pub input_of : Result ℕ Error → ℕ → Input
 input_of (Ok k) n = pick (eqb k 0) NoMore (Bytes (min k n))
-input_of (Err error) n = failure (raw_os_error error)
+input_of (Err error) n = failure error (raw_os_error error)
 
 -- the bytes that it left, at the start of the part
 unfoldable pub amount : Input → ℕ
 amount (Bytes k) = k
 amount NoMore = 0
 amount Interrupted = 0
-amount Failed = 0
+amount (Failed error) = 0
 
 unfoldable pub bytes_read : Input → List ℕ → List ℕ
 bytes_read input part = take (amount input) part
@@ -45,12 +45,12 @@ unfoldable pub may_read : Input → Bool
 may_read (Bytes k) = true
 may_read NoMore = false
 may_read Interrupted = true
-may_read Failed = false
+may_read (Failed error) = false
 
-unfoldable pub goes_on : Took → Bool
-goes_on t = pick t.written (pick (is_over t.carry.phase) false (may_read t.input)) false
+unfoldable pub goes_on : Took → Phase → Bool
+goes_on t phase = pick (is_ok t.wrote) (pick (is_over phase) false (may_read t.input)) false
 
 -- What is held of the line at hand, and the phase, are what the run makes of parts: those that the reads left, each after
 -- the earlier ones.
-unfoldable pub Came : List ℕ → Carry → Type 0
-Came line c = (parts : List (List ℕ)) × (state_of line c ≡ parts_to (state [] Start) parts)
+unfoldable pub Came : Carry → Type 0
+Came c = (parts : List (List ℕ)) × (state_of c ≡ parts_to (state [] Start) parts)

@@ -12,38 +12,32 @@ const WORD: usize = p5_utf8_text::writer::WIDTH * LONGEST;
 
 // Writes a word and a line feed; an error where it is not written.
 fn print(to: Stdout, word: &[u32]) -> io::Result<()> {
-    let mut bytes = [0u8; WORD + 1];
-    let given = p5_utf8_text::writer::write(word, &mut bytes);
-    match given {
-        Err(_) => Err(Error::other("no letters of a word")),
-        Ok(n) => {
-            if WORD < n {
-                return Err(Error::other("more letters than a word's"));
-            }
-            bytes[n] = 10;
-            to.write_all(slices::first_bytes(&bytes, n + 1))
-        }
+    let mut bytes = [0; WORD + 1];
+    let n = p5_utf8_text::writer::write(word, &mut bytes).map_err(|_| Error::other(
+        "no letters of a word",
+    ))?;
+    if WORD < n {
+        return Err(Error::other("more letters than a word's"));
     }
+    bytes[n] = b'\n';
+    to.write_all(slices::first(&bytes, n + 1))
 }
 
 // Writes the word of a number; an error where it is not written.
 fn print_number(to: Stdout, n: usize) -> io::Result<()> {
-    let mut letters = [0u32; LONGEST];
-    let given = p5_lister::word_number(n, &mut letters);
-    match given {
-        Err(_) => Err(Error::other("no word of this number")),
-        Ok(len) => print(to, slices::first(&letters, len)),
-    }
+    let mut letters = [0; LONGEST];
+    let len = p5_lister::word_number(n, &mut letters).map_err(|_| Error::other(
+        "no word of this number",
+    ))?;
+    print(to, slices::first(&letters, len))
 }
 
 fn main(rt: HostRuntime) -> ExitCode {
-    let mut n: usize = 0;
-    while n < p5_lister::total() {
+    for n in 0..p5_lister::total() {
         if let Err(error) = print_number(rt.stdout(), n) {
             let _ = eprintln!(rt; "wordlist: not all was written: {error}");
             return ExitCode::FAILURE;
         }
-        n += 1;
     }
     ExitCode::SUCCESS
 }

@@ -47,7 +47,7 @@ pub spell-next-requires : goal.spell-next-requires
 spell-next-requires c =
     let q : c.turn.result ≡ Some c.in_ok-parting.parting = grind arith in
     let t = rw q at c.turn.ensures in
-    (omega (arith, t.0), some t.1 sound (rw count_is t.0), omega (arith, t.1.deep, root_depth))
+    (omega (arith, t.0), some t.1 sound (rw count_is t.0), omega (arith, t.1.deep, root_depth, c.keep-kept.ensures.0))
 
 pub returns : goal.returns
 returns c =
@@ -57,5 +57,5 @@ returns c =
     let k = next_after t.1 sound (rw count_is t.0) in
     follows lists _ _ _ c.args.word.now p (rw (← root) k.0) (take c.spell-next.result.len c.spell-next.result.letters)
     (rw (← root)
-    (c.spell-next.ensures.1 ∙ ap (λ (u : List ℕ). u ++ nth (trie_at nodes c.in_ok-parting.parting.node) 0) c.keep-kept.ensures ∙ k.1))
+    ((rw c.keep-kept.ensures.0 at c.spell-next.ensures.1) ∙ ap (λ (u : List ℕ). u ++ nth (trie_at nodes c.in_ok-parting.parting.node) 0) c.keep-kept.ensures.1 ∙ k.1))
     (search rules) (search rules)

@@ -19,8 +19,14 @@ loop-halt-init c = record {
 pub scan-requires : goal.scan-requires
 scan-requires c = omega (arith, c.loop-halt.invariant.small, count_is)
 
-pub bounds-letters-len : goal.bounds-letters-len
-bounds-letters-len c = omega (arith, has_room c.loop-halt.invariant sound c.in-Some.ensures.1)
+pub bounds-word-word : goal.bounds-word-word
+bounds-word-word c = omega (arith, has_room c.loop-halt.invariant sound c.in-Some.ensures.1)
+
+pub offset_bounds-word-word : goal.offset_bounds-word-word
+offset_bounds-word-word c = omega (arith, has_room c.loop-halt.invariant sound c.in-Some.ensures.1)
+
+pub overflow_add-word : goal.overflow_add-word
+overflow_add-word c = omega (arith, has_room c.loop-halt.invariant sound c.in-Some.ensures.1)
 
 pub returns-then-halt-ends : goal.returns-then-halt-ends
 returns-then-halt-ends c =

@@ -9,7 +9,7 @@ use Rattle.p5_lister.proofs.spell.Given as goal
 
 abbrev pub invariant-loop-halt : goal.invariant-loop-halt
 invariant-loop-halt l =
-    Spell nodes longest_length (take l.at l.initial.letters ++ nth (trie_at nodes l.from) l.n) l.letters l.len l.row l.left
+    Spell nodes longest_length (take l.initial.word.len l.initial.word.letters ++ nth (trie_at nodes l.from) l.n) l.word.letters l.word.len l.row l.left
 
 abbrev pub decreases-loop-halt : goal.decreases-loop-halt
-decreases-loop-halt l = longest_length - l.len
+decreases-loop-halt l = longest_length - l.word.len

@@ -1,17 +1,17 @@
 use borrow.Author.Rules.{rules}
-use Rattle.p7_wordline.proofs.Turns.{ends, goes, unread, not_over, came_none, came_more}
+use Rattle.p7_wordline.proofs.Turns.{ends, goes, came_more}
 use Rattle.p7_wordline.proofs.run.Goals as goal
 
-ruleset answers = (rules, ends, goes, unread, not_over, came_none, came_more)
+ruleset answers = (rules, ends, goes, came_more)
 
-pub loop-turns-init : goal.loop-turns-init
-loop-turns-init c = (search answers, search answers, search answers, search answers, search answers, search answers)
+pub returns-then-not-goes_on-clause-came : goal.returns-then-not-goes_on-clause-came
+returns-then-not-goes_on-clause-came c = search answers
 
-pub returns-then-not-goes_on : goal.returns-then-not-goes_on
-returns-then-not-goes_on c = (search answers, search answers)
-
-pub loop-turns-preserved : goal.loop-turns-preserved
-loop-turns-preserved c = (search answers, search answers, search answers, search answers, search answers, search answers)
-
-pub returns : goal.returns
-returns c = (search answers, search answers)
+pub loop-turn-preserved : goal.loop-turn-preserved
+loop-turn-preserved c = record {
+  part_long = search answers;
+  out_long = search answers;
+  held_most = search answers;
+  not_over = search answers;
+  came = search answers;
+}

@@ -4,10 +4,11 @@ use Rattle.p7_feed.specs.Mirror.{part_most, out_room}
 use Rattle.p7_wordline.specs.Mirror.{is_over, Came}
 use Rattle.p7_wordline.proofs.run.Given as goal
 
-abbrev pub invariant-loop-turns : goal.invariant-loop-turns
-invariant-loop-turns l =
-    (length l.line ≡ most) × (length l.part ≡ part_most) × (length l.out ≡ out_room) × (l.carry.len ≤ most)
-    × (is_over l.carry.phase ≡ false) × Came l.line l.carry
-
-abbrev pub decreases-loop-turns : goal.decreases-loop-turns
-decreases-loop-turns l = l.turns
+abbrev pub invariant-loop-turn : goal.invariant-loop-turn
+invariant-loop-turn l = record {
+  part_long : length l.part ≡ part_most;
+  out_long : length l.out ≡ out_room;
+  held_most : l.carry.len ≤ most;
+  not_over : is_over l.carry.phase ≡ false;
+  came : Came l.carry;
+}

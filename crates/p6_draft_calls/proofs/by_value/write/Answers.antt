@@ -1,4 +1,9 @@
 use borrow.Author.Rules.{rules}
+use mathlib.Core.Path.{◌≡◌}
+use Rattle.p3_cells.specs.Cells.{used}
+use Rattle.p3_cells.proofs.Text.{length_under}
+use Rattle.p6_draft.specs.Draft.{draft_cells}
+use Rattle.p6_draft.specs.Mirror.{draft_head, put_at}
 use Rattle.p6_draft_calls.proofs.Writing.{value_ways}
 use Rattle.p6_draft_calls.proofs.by_value.write.Goals as goal
 
@@ -35,4 +40,8 @@ pub returns-clause-value : goal.returns-clause-value
 returns-clause-value c = search answers
 
 pub returns-clause-draft_after : goal.returns-clause-draft_after
-returns-clause-draft_after c = search answers
+unfolding used
+returns-clause-draft_after c =
+    let f : c.put_cells.new.draft ≡ put_at draft_head (draft_cells (used c.args.c)) c.put_head.new.draft =
+    c.put_cells.ensures c.args.c (search (rules, length_under)) (λ i x h p. search rules) in
+    search answers
