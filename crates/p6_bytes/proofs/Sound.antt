@@ -271,4 +271,3 @@ no_size b f = sym (go (bytes_sound b) refl)
     go false e = refl
 
 -- ---- what is read of sound bytes
-module _ (b : List ℕ) (s : bytes_sound b ≡ true) where

@@ -20,15 +20,11 @@ use Rattle.p6_bytes.proofs.Tests.{ascii_cell}
 use Rattle.p6_zeros.specs.Mirror.{long_at}
 use Rattle.p6_zeros.specs.Zeros.{byte_at}
 use Rattle.p6_draft.specs.Draft.{mark_byte}
-use Rattle.p6_draft.specs.Mirror.{draft_start, four_at, read_mark, draft_cell_at, field_fits, frame_fits, draft_cell_fits}
+use Rattle.p6_draft.specs.Mirror.{draft_start, four_at, read_mark, draft_cell_at, frame_fits, draft_cell_fits}
 use Rattle.p6_draft.specs.Mirror.{draft_frame, draft_length, draft_count, plain_at, draft_cells_fit, is_draft}
 
 -- ---- a field of one byte
 -- ---- the fields beside n cells, in their order
-module _ (b : List ℕ) (n : ℕ) (v : Bool) (e : v ≡ field_fits b 0 1) where
-  module _ (q : not v ≡ false) (w : Bool) (f : w ≡ field_fits b 4 2) where
-    module _ (p : not w ≡ false) where
-      module _ (h : byte_at b 8 ≡ 3) (r : ℕ) (d : r ≡ byte_at b 9 * 256 + byte_at b 10) where
 -- ---- a plain cell
 eight : ℕ → ℕ → ℕ → ℕ → ℕ → ℕ → ℕ → ℕ → ℕ
 eight b0 b1 b2 b3 b4 b5 b6 b7 =
@@ -169,10 +165,6 @@ module _ (b : List ℕ) (i : ℕ) where
 
 -- ---- the cells
 -- ---- the whole, with n cells
-module _ (b : List ℕ) where
-  module _ (l : draft_frame ≤ length b) (n : ℕ) (e : n ≡ draft_count b) where
-    module _ (f : n ≤ limit) where
-      module _ (d : length b ≡ draft_length n) (v : Bool) (g : v ≡ frame_fits b n) where
 -- ---- what the tests have shown of a draft with n cells
 no_and : (t : Bool) {r : Bool} → pick t false r ≡ true → (t ≡ false) × (r ≡ true)
 no_and true e = let z : ◌≡◌ {A = ℕ} 0 1 = cc in absurd (omega arith)

@@ -4,5 +4,3 @@ use Rattle.p0_refusals.specs.declared.Refusal.{Refusal}
 use Prim.Native.Nat.{ℕ}
 use mathlib.Core.Path.{◌≡◌}
 use Rattle.p4_note_line.specs.declared.Report.{Report}
-
-module _ (g a : Result Report Refusal) (n : ℕ) (e : g ≡ a) where

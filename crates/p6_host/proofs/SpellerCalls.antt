@@ -5,6 +5,3 @@ use Rattle.p0_refusals.specs.declared.Refusal.{Refusal}
 use Prim.Native.Nat.{ℕ}
 use mathlib.Core.Path.{◌≡◌}
 use Rattle.p4_spelling.specs.declared.CutPlaces.{CutPlaces}
-
-module _ (g a : Result CutPlaces Refusal) (n : ℕ) (e : g ≡ a) where
-module _ (g a : Result Bool Refusal) (n : ℕ) (e : g ≡ a) where
