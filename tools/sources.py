@@ -15,7 +15,7 @@ CONVERSION = re.compile(
 GIVES = re.compile(r"ghost (?:try_)?from_gives = \{ λ \w+ (?P<result>\w+)\. (?P<fact>.*?) \};", re.S)
 # .. up to its clauses or its body
 SIGNATURE = re.compile(r"(?:(?!\s(?:requires|ensures)\b)[^{])*")
-CLAUSE = re.compile(r"\s*(requires|ensures)\b\s*\w*\s*\{")
+CLAUSE = re.compile(r"\s*(requires|ensures)\b\*?\s*\w*\s*\{")
 # a part of the answer, where a fact tells what it is: the result or a field of it, or what a `&mut` holds at the end
 PART = r"result(?:\.[\w«»]+)*|[\w«»]+\.new"
 TOLD = re.compile(rf"(?P<left>{PART}) ≡ .*|.* ≡ (?P<right>{PART})")

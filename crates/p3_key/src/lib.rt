@@ -4,7 +4,7 @@
 // and what a step reads is lent as a row of bases. A refusal puts the cell at hand back where it stood.
 #![tactic(auto)]
 
-ghost use Rattle.std.specs.Prelude.{◌≡◌, true, ◌<◌, ◌≤◌, min, eqb, length};
+ghost use Rattle.std.specs.Prelude.{◌≡◌, true, ◌<◌, ◌≤◌, eqb, length};
 ghost use Rattle.p0_refusals.specs.Answers.{output};
 ghost use Rattle.p3_cells.specs.Cells.{limit, is_cell, is_sound};
 ghost use Rattle.p3_cells.specs.Mirror.{row_cells};

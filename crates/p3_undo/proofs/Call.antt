@@ -1,7 +1,7 @@
 -- Each way through the call; and that it keeps a composition sound.
 use Rattle.std.specs.Prelude.{None, Option, Some, Ok}
 use Prim.Native.Nat.{ℕ, ◌<◌, ◌≤◌}
-use mathlib.Core.Path.{◌≡◌, refl, sym, ◌∙◌}
+use mathlib.Core.Path.{◌≡◌, refl}
 use mathlib.Core.Bool.{Bool, true, false, not}
 use mathlib.Core.List.{List}
 use lib.ListN.{length}
@@ -71,6 +71,3 @@ module _ (c : Composition) (k : ℕ) (raw : List ℕ) (r : Undone) (s : Bool) (e
             → r ≡ undo_found c (to_undo c.settings.method (used c) (raw_lowered raw) t) → r ≡ undo_telex c k raw
         unfolding undo_telex
         undo_done t z d q = rw (← e, not-false s h, le-ltb letter_limit (length raw) l, ← f, not-false v p, ← g, not-false w z, ← d) q
-
-pub tested : (c : Composition) (s : Bool) → s ≡ is_sound c → not s ≡ false → is_sound c ≡ true
-tested c s e h = sym e ∙ not-false s h

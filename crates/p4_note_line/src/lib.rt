@@ -30,7 +30,7 @@ pub enum Taken {
 }
 
 // Of a letter that `at` letters stand before, the last `run` of them of one word.
-#[tactic(auto, using(p0_choice::proofs::Choices::calls), unfolding(crate::specs::Line::taking))]
+#[tactic(auto, unfolding(crate::specs::Line::taking))]
 pub fn take(at: usize, run: usize, x: u32) -> Result<Taken, Refusal>
     ensures { result ≡ taking at run x }
 {
@@ -50,7 +50,7 @@ pub fn take(at: usize, run: usize, x: u32) -> Result<Taken, Refusal>
 }
 
 // The line's length, or the refusal of the first letter that has one.
-#[tactic(auto, using(crate::proofs::Faults::fault_gap, crate::proofs::Faults::fault_letter, crate::proofs::Faults::fault_here, crate::proofs::Faults::fault_none), unfolding(crate::specs::Line::line_fault))]
+#[tactic(auto, using(crate::proofs::Faults::fault_gap, crate::proofs::Faults::fault_letter, crate::proofs::Faults::fault_none), unfolding(crate::specs::Line::line_fault))]
 fn fault_in(line: &[u32]) -> Result<usize, Refusal>
     ensures { result ≡ line_fault line.now }
 {

@@ -14,14 +14,9 @@ use Rattle.p0_refusals.specs.Limits.{letter_limit}
 use Rattle.p4_note_line.specs.Line.{line_limit}
 use Rattle.p4_note_parts.specs.State.{in_word, letters_fit, counts_fit, end_fits, line_sound}
 use Rattle.p4_note_parts.specs.declared.Line.{Line}
-use Rattle.p4_note_parts.proofs.Soundness.{counts_told}
 
 -- ---- the kept letters, one by one: what is left of them decides
 module _ (kept : List ℕ) (run : ℕ) where
-  -- all are left at first
-  pub kept_start_lem : letters_fit run kept ≡ letters_fit (run - 0) kept
-  kept_start_lem = let e : run - 0 ≡ run = omega arith in rw e
-
   -- the letter at i, and what is left past it
   module _ (i : ℕ) (e : letters_fit run kept ≡ letters_fit (run - i) (drop i kept)) (h : i < length kept) where
     past : run ≤ i → letters_fit run kept ≡ pick (eqb (get_or kept i 0) 0) (letters_fit (run - (i + 1)) (drop (i + 1) kept)) false
@@ -56,18 +51,6 @@ module _ (kept : List ℕ) (run : ℕ) where
   pub kept_all : (i : ℕ) → letters_fit run kept ≡ letters_fit (run - i) (drop i kept) → length kept ≤ i → true ≡ letters_fit run kept
   unfolding letters_fit
   kept_all i e l = sym (e ∙ rw (drop_of_length-le kept l))
-
--- ---- the counts: words or a place beyond the length do not fit
-is_no : (b : Bool) → (b ≡ true → ⊥) → false ≡ b
-is_no true f = absurd (f refl)
-is_no false f = refl
-
-module _ (s : Line) where
-  pub words_over : s.length < s.words → false ≡ counts_fit s
-  words_over l = is_no (counts_fit s) (λ h. let c = counts_told s h in omega arith)
-
-  pub first_over : s.length < s.first → false ≡ counts_fit s
-  first_over l = is_no (counts_fit s) (λ h. let c = counts_told s h in omega arith)
 
 -- ---- the tests together: the limits stand with the counts
 pub sound_tests : (s : Line) (r : Bool)

@@ -9,11 +9,10 @@ use native.Mathlib.Omega.{arith}
 use mir.Syntax.{w64}
 use mir.Val.{Fits}
 use lib.Dec.{ltb}
-use lib.ListN.{take, set}
+use lib.ListN.{set}
 use borrow.Author.Tests.{ne_eqb}
 use Rattle.p0_choice.specs.Choice.{pick}
-use Rattle.p0_choice.proofs.Choices.{pick_le}
-use Rattle.p4_spelling.specs.Verdict.{verdict, longest_length}
+use Rattle.p4_spelling.specs.Verdict.{longest_length}
 use Rattle.p4_note_line.specs.declared.Report.{Report}
 use Rattle.p4_note_line.specs.Line.{line_limit}
 use Rattle.p4_note_line.specs.Mirror.{one_more}
@@ -21,11 +20,6 @@ use Rattle.p4_note_parts.specs.declared.Line.{Line}
 use Rattle.p4_note_parts.specs.State.{blank_letters, line_sound}
 use Rattle.p4_note_parts.specs.Parts.{open_accepted, word_more, counted_all, gap_taken, letter_taken}
 use Rattle.p4_note_parts.proofs.Soundness.{sound_facts}
-
--- a word that has all its letters kept is judged by them, lent as a part of the room
-pub open_judged : (run : ℕ) (kept : List ℕ) (r : Bool) → run ≤ longest_length → r ≡ verdict (take run kept) → r ≡ open_accepted run kept
-unfolding open_accepted
-open_judged run kept r l e = pick_le run longest_length r _ _ l e
 
 module _ (s : Line) where
   -- ---- the counts: with no open word, and with one of the verdict v
@@ -75,12 +69,6 @@ module _ (s : Line) where
 
   -- ---- in a sound state no count exceeds the length, and each has room for one more
   module _ (h : line_sound s ≡ true) where
-    pub words_within : s.words ≤ s.length
-    words_within = omega (arith, sound_facts s h)
-
-    pub noes_within : s.noes ≤ s.length
-    noes_within = omega (arith, sound_facts s h)
-
     pub run_within : s.run ≤ s.length
     run_within = omega (arith, sound_facts s h)
 

@@ -43,7 +43,7 @@ pub struct LineAfter {
 // ---- soundness
 
 // A letter that a word can have.
-#[tactic(auto, using(p0_choice::proofs::Choices::calls), unfolding(crate::specs::State::in_word))]
+#[tactic(auto, unfolding(crate::specs::State::in_word))]
 fn in_word(x: u32) -> bool
     ensures { result ≡ in_word x }
 {
@@ -51,7 +51,7 @@ fn in_word(x: u32) -> bool
 }
 
 // The kept letters of an open word of `run` letters.
-#[tactic(auto, using(crate::proofs::Tests::kept_start_lem, crate::proofs::Tests::kept_stray, crate::proofs::Tests::kept_none, crate::proofs::Tests::kept_foreign, crate::proofs::Tests::kept_on, crate::proofs::Tests::kept_all))]
+#[tactic(auto, using(crate::proofs::Tests::kept_stray, crate::proofs::Tests::kept_none, crate::proofs::Tests::kept_foreign, crate::proofs::Tests::kept_on, crate::proofs::Tests::kept_all))]
 fn letters_fit(kept: &[u32; LONGEST], run: usize) -> bool
     ensures { result ≡ letters_fit run kept.now }
 {
@@ -68,7 +68,7 @@ fn letters_fit(kept: &[u32; LONGEST], run: usize) -> bool
 }
 
 // The words that have ended. What exceeds the length is told first, so that no sum wraps.
-#[tactic(auto, using(p0_choice::proofs::Choices::picks, crate::proofs::Tests::words_over, crate::proofs::Tests::first_over), unfolding(crate::specs::State::counts_fit))]
+#[tactic(auto, unfolding(crate::specs::State::counts_fit))]
 fn counts_fit(s: Line) -> bool
     ensures { result ≡ pick (leb s.length line_limit) (pick (leb s.run letter_limit) (counts_fit s) false) false }
 {
@@ -94,7 +94,7 @@ fn end_fits(standing: Standing, length: usize, run: usize) -> bool
 }
 
 // A state that some line leads to.
-#[tactic(auto, using(crate::proofs::Tests::sound_tests, p0_choice::proofs::Choices::calls))]
+#[tactic(auto, using(crate::proofs::Tests::sound_tests))]
 pub fn sound(s: Line) -> bool
     ensures { result ≡ line_sound s }
 {
@@ -104,7 +104,7 @@ pub fn sound(s: Line) -> bool
 // ---- letters
 
 // The verdict on an open word. None that is longer than LONGEST is accepted.
-#[tactic(auto, using(p0_choice::proofs::Choices::picks, crate::proofs::Words::open_judged), unfolding(crate::specs::Parts::open_accepted))]
+#[tactic(auto, unfolding(crate::specs::Parts::open_accepted))]
 fn open_accepted(kept: &[u32; LONGEST], run: usize) -> bool
     ensures { result ≡ open_accepted run kept.now }
 {
@@ -145,7 +145,7 @@ fn close(s: Line) -> Line
 }
 
 // The open word has a letter more, which is kept while there is room.
-#[tactic(auto, using(p0_choice::proofs::Choices::picks, crate::proofs::Words::length_fits, crate::proofs::Words::run_fits, crate::proofs::Words::lengthened))]
+#[tactic(auto, using(crate::proofs::Words::length_fits, crate::proofs::Words::run_fits, crate::proofs::Words::lengthened))]
 fn lengthen(s: Line, x: u32) -> Line
     requires { line_sound s ≡ true }
     ensures { result ≡ letter_taken s x }
@@ -175,7 +175,7 @@ fn end(s: Line, why: Refusal) -> Line
 }
 
 // The letters of a part, up to one that is refused.
-#[tactic(auto, using(crate::proofs::Steps::on_start, crate::proofs::Steps::on_end, crate::proofs::Steps::on_gap, crate::proofs::Steps::on_letter, crate::proofs::Steps::on_refused))]
+#[tactic(auto, using(crate::proofs::Steps::on_start, crate::proofs::Steps::on_end))]
 fn take_part(mut s: Line, part: &[u32]) -> Line
     requires { (line_sound s ≡ true) × (s.standing ≡ Ok tt) }
     ensures { result ≡ part_taken s part.now }
@@ -209,7 +209,7 @@ pub fn begin() -> Line
 }
 
 // The next part of a line. Refusals: 10, then 1 and 6 by place; these two the state keeps, and repeats.
-#[tactic(auto, using(p0_choice::proofs::Choices::calls, crate::proofs::Standings::part_taken_lem), unfolding(crate::specs::Parts::part_after))]
+#[tactic(auto, using(crate::proofs::Standings::part_taken_lem), unfolding(crate::specs::Parts::part_after))]
 pub fn part(s: Line, letters: &[u32]) -> LineAfter
     ensures { result ≡ part_after s letters.now }
 {
@@ -233,7 +233,7 @@ pub fn part(s: Line, letters: &[u32]) -> LineAfter
 }
 
 // What is told of the letters that have come, at any time. Refusals: 10, then the one that the state keeps.
-#[tactic(auto, using(p0_choice::proofs::Choices::calls, crate::proofs::Standings::told_none, crate::proofs::Standings::told_some, crate::proofs::Standings::answer_stands), unfolding(crate::specs::Parts::state_answer))]
+#[tactic(auto, using(crate::proofs::Standings::told_none, crate::proofs::Standings::told_some, crate::proofs::Standings::answer_stands), unfolding(crate::specs::Parts::state_answer))]
 pub fn answer(s: Line) -> Result<Report, Refusal>
     ensures { result ≡ state_answer s }
 {

@@ -46,7 +46,7 @@ fn vowel_run(word: &[u32]) -> usize
 }
 
 // q u or g i.
-#[tactic(auto, unfolding(crate::specs::Cut::is_glue, p4_rows::specs::Lookup::in_list, p4_rows::specs::Lookup::same_word, p0_choice::specs::Text::word, p0_choice::specs::Text::words, p0_choice::specs::Text::words_from))]
+#[tactic(auto, unfolding(crate::specs::Cut::is_glue, p4_rows::specs::Lookup::in_list, p4_rows::specs::Lookup::same_word, p0_choice::specs::Text::words))]
 fn is_glue(x: u32, y: u32) -> bool
     ensures { result ≡ is_glue x y }
 {
@@ -64,7 +64,7 @@ fn onset_end(word: &[u32]) -> usize
 }
 
 // The places where any word is cut.
-#[tactic(auto, using(crate::proofs::Scans::places_are, crate::proofs::Scans::places_within, crate::proofs::Scans::end_within))]
+#[tactic(auto, using(crate::proofs::Scans::places_are, crate::proofs::Scans::places_within))]
 pub fn cut_at(word: &[u32]) -> CutPlaces
     ensures { (result ≡ places_of word.now) × (result.onset ≤ result.vowels) × (result.vowels ≤ length word.now) }
 {
@@ -76,21 +76,21 @@ pub fn cut_at(word: &[u32]) -> CutPlaces
 }
 
 // The parts of a word between such places; empty where they do not stand in it.
-#[tactic(auto, using(p0_choice::proofs::Choices::picks, crate::proofs::Scans::from_start), unfolding(crate::specs::Answers::onset_part))]
+#[tactic(auto, unfolding(crate::specs::Answers::onset_part))]
 pub fn onset_part(word: &[u32], at: CutPlaces) -> &[u32]
     ensures { result.now ≡ onset_part word.now at }
 {
     word.get(..at.onset).unwrap_or(&[])
 }
 
-#[tactic(auto, using(p0_choice::proofs::Choices::picks), unfolding(crate::specs::Answers::vowels_part))]
+#[tactic(auto, unfolding(crate::specs::Answers::vowels_part))]
 pub fn vowels_part(word: &[u32], at: CutPlaces) -> &[u32]
     ensures { result.now ≡ vowels_part word.now at }
 {
     word.get(at.onset..at.vowels).unwrap_or(&[])
 }
 
-#[tactic(auto, using(p0_choice::proofs::Choices::picks, crate::proofs::Scans::whole_rest), unfolding(crate::specs::Answers::coda_part))]
+#[tactic(auto, unfolding(crate::specs::Answers::coda_part))]
 pub fn coda_part(word: &[u32], at: CutPlaces) -> &[u32]
     ensures { result.now ≡ coda_part word.now at }
 {
@@ -98,7 +98,7 @@ pub fn coda_part(word: &[u32], at: CutPlaces) -> &[u32]
 }
 
 // The cut of a permitted word.
-#[tactic(auto, using(p0_choice::proofs::Choices::calls), unfolding(crate::specs::Answers::cut_answer, crate::specs::Answers::permitted))]
+#[tactic(auto, unfolding(crate::specs::Answers::cut_answer, crate::specs::Answers::permitted))]
 pub fn partition(word: &[u32]) -> Result<CutPlaces, Refusal>
     ensures { result ≡ cut_answer word.now }
 {
@@ -163,7 +163,7 @@ pub fn accepts(word: &[u32]) -> bool
 }
 
 // The verdict on a permitted word. An accepted word has letters of the alphabet alone, so only the others are asked.
-#[tactic(auto, using(p0_choice::proofs::Choices::calls, crate::proofs::Answers::says_yes), unfolding(crate::specs::Answers::verdict_answer, crate::specs::Answers::permitted))]
+#[tactic(auto, using(crate::proofs::Answers::says_yes), unfolding(crate::specs::Answers::verdict_answer, crate::specs::Answers::permitted))]
 pub fn is_valid_vietnamese_syllable(word: &[u32]) -> Result<bool, Refusal>
     ensures { result ≡ verdict_answer word.now }
 {

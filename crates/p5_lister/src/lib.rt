@@ -28,7 +28,7 @@ const NO_LETTER: u32 = u32::MAX;
 
 const MANY: usize = 65536;
 
-// What the table says of a node, as one number.
+// What the table says of a node, as one number, so that the table has four bytes a node: the panel's image is nearly full.
 #[derive(Clone, Copy)]
 struct Entry {
     bits: u32,
@@ -79,7 +79,7 @@ struct Halt {
 }
 
 // The first node from `from` on, in its row, whose letter is y or more or through which more than `left` words go. Of all
-// functions this one reads the table.
+// functions this one reads the table. A row's place is a plain number: a type for it would be taken apart at each step.
 fn scan(from: usize, y: u32, most: usize) -> Option<Halt>
     requires { from ≤ node_count }
     ensures { MatchOption result (PassedAll from y most) (λ h. HaltsAt from y most h.node h.left h.entry.bits) }

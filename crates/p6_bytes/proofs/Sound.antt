@@ -272,5 +272,3 @@ no_size b f = sym (go (bytes_sound b) refl)
 
 -- ---- what is read of sound bytes
 module _ (b : List ℕ) (s : bytes_sound b ≡ true) where
-  pub byte_there : (i : ℕ) → i < size → i < length b
-  byte_there i h = let l = sound_size b s in omega arith

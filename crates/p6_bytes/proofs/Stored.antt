@@ -51,16 +51,7 @@ bare_shown b k i w l x e h j p q =
     rw c (shown_bare k (cell_at b (start i)) l (toneless b (start i) (rw e at h)) (flagless b (start i) (rw e at h))
     (q ∙ ap letter_of (p ∙ c)))
 
-pub other_shown : (b : List ℕ) (k : Bool) (i r : ℕ) (x : Cell) → x ≡ cell_of (composition_of b) i → r ≡ shown k x
-    → r ≡ shown k (cell_of (composition_of b) i)
-other_shown b k i r x p q = q ∙ ap (shown k) p
-
 -- ---- a cell and the count, stored
-pub stored_is : (b next : List ℕ) (i : ℕ) (x : Cell)
-    → next ≡ take (start i) b ++ (cell_bytes x ++ drop (start i + 8) b) → next ≡ stored b i x
-unfolding stored
-stored_is b next i x e = e
-
 cells_set : (xs : List Cell) (i : ℕ) (x : Cell) → i < length xs
     → cells_bytes (set xs i x) ≡ take (8 * i) (cells_bytes xs) ++ (cell_bytes x ++ drop (8 * i + 8) (cells_bytes xs))
 unfolding cell_bytes
@@ -100,9 +91,6 @@ unfolding bytes_of head_bytes
 capitals_stored c on n e = rw e refl
 
 -- ---- no cells
-pub set_room : (b : List ℕ) (i x : ℕ) → length b ≡ size → size ≤ length (set b i x)
-set_room b i x e = omega (arith, length-set b i x)
-
 pub set_length : (b new : List ℕ) (i x : ℕ) → length new ≡ length (set b i x) → length new ≡ length b
 set_length b new i x e = e ∙ length-set b i x
 

@@ -32,7 +32,7 @@ use Rattle.p3_calls.proofs.Literal.{literal_foreign, literal_full, literal_done,
 use Rattle.p3_calls.proofs.Output.{text_short, text_short_out, text_done, text_done_out, removal_empty, removal_empty_out, removal_short}
 use Rattle.p3_calls.proofs.Output.{removal_short_out, removal_done, removal_done_out}
 use Rattle.p3_calls.proofs.Settings.{set_done, turned_off, turned_on_lem, capitals_kept}
-use Rattle.p6_bytes.specs.Bytes.{size, bytes_of, composition_of, method_of, bytes_sound}
+use Rattle.p6_bytes.specs.Bytes.{bytes_of, composition_of, method_of, bytes_sound}
 use Rattle.p6_zeros.specs.Zeros.{byte_at}
 use Rattle.p6_bytes.specs.Mirror.{stored, cleared}
 use Rattle.p6_bytes.proofs.Round.{read_written, method_forth, flag_forth}
@@ -57,9 +57,6 @@ unfolding written_to
 text_all b o out i n e l h = let z : i ≡ n = omega arith in rw z at e
 
 -- ---- lengths and bytes
-pub set_size : (s : List ℕ) (i x : ℕ) → length s ≡ size → length (set s i x) ≡ size
-set_size s i x e = length-set s i x ∙ e
-
 pub few : (b : List ℕ) (n : ℕ) → n ≡ (composition_of b).count → bytes_sound b ≡ true → n ≤ limit
 unfolding composition_of
 few b n p s = rw p (sound_count b s)

@@ -1,6 +1,6 @@
 -- Each way through the key on bytes. What it leaves is what the stroke of a key leaves (p3_key, proofs/Right).
 use Rattle.std.specs.Prelude.{Err, Ok}
-use Prim.Native.Nat.{ℕ, ◌+◌, ◌-◌, ◌<◌, ◌≤◌}
+use Prim.Native.Nat.{ℕ, ◌-◌, ◌<◌, ◌≤◌}
 use mathlib.Core.Path.{◌≡◌, refl, sym, ap, ◌∙◌}
 use mathlib.Core.Bool.{Bool, true, false, not}
 use mathlib.Core.List.{List, [], ◌∷◌, ◌++◌, map}
@@ -23,7 +23,6 @@ use Rattle.p3_cells.specs.declared.Composition.{Composition}
 use Rattle.p3_cells.specs.declared.Mode.{Mode}
 use Rattle.p3_cells.specs.declared.Mode.TheVariants.{Vietnamese, English}
 use Rattle.p3_cells.specs.declared.Settings.{Settings}
-use Rattle.p3_cells.proofs.Fill.{Filled, fill_none, fill_more, filled}
 use Rattle.p3_cells.proofs.Holding.{used_length, used_cells}
 use Rattle.p3_cells.proofs.Row.{row_length, bases_length}
 use Rattle.p3_key.specs.Process.{key_outcome, keyed}
@@ -49,20 +48,6 @@ use Rattle.p6_composition.specs.Mirror.{applied}
 use Rattle.p6_composition.proofs.InPlace.{cell_in, both_stored}
 
 -- ---- the loop of the row
-pub fill_start : (b row : List ℕ) → Filled (composition_of b) row 0
-fill_start b row = fill_none (composition_of b) row
-
-pub fill_on : (b row₀ row : List ℕ) (i n : ℕ) (x : Cell) → Filled (composition_of b) row i → i < n → n ≤ limit → n ≤ length row₀
-    → length row ≡ length row₀ → x ≡ cell_of (composition_of b) i
-    → Filled (composition_of b) (set row i x.base) (i + 1)
-fill_on b row₀ row i n x f h l m k e =
-    let a = cells_all b in
-    fill_more (composition_of b) row i x.base f (ap (λ (y : Cell). y.base) e) (omega arith) (omega arith)
-
-pub fill_done : (b row : List ℕ) (i n : ℕ) → Filled (composition_of b) row i → i ≤ n → n ≤ i
-    → take n row ≡ bases (first_cells (composition_of b) n)
-fill_done b row i n f l h = let z : i ≡ n = omega arith in rw z at (filled (composition_of b) row i f)
-
 -- ---- the step
 module _ (b : List ℕ) (s : bytes_sound b ≡ true) (z : Settings) (k n : ℕ) (p : n ≡ (composition_of b).count) where
   row_long : length (row_cells (bases (used (composition_of b)))) ≡ n

@@ -9,7 +9,6 @@ ghost use Rattle.p3_cells.specs.Mirror.{first_cells, first_text, row_cells};
 ghost use Rattle.p3_cells.specs.Row.{bases};
 ghost use Rattle.p3_step.specs.Mirror.{step_of};
 ghost use Rattle.p3_key.specs.Process.{key_outcome};
-ghost use Rattle.p3_undo.specs.Mirror.{signs};
 ghost use Rattle.p3_undo.specs.Raw.{raw_lowered};
 ghost use Rattle.p3_undo.specs.Undo.{to_undo};
 ghost use Rattle.p6_bytes.specs.Bytes.{composition_of, bytes_sound};

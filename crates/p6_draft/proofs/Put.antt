@@ -4,14 +4,9 @@ use mathlib.Core.Path.{◌≡◌, refl, sym, ap, ◌∙◌}
 use mathlib.Core.List.{List, [], ◌++◌, append_assoc}
 use native.Mathlib.Omega.{arith}
 use lib.ListN.{length, take, drop, length-append, take-append-drop}
-use lib.Seq.{length-take-le, take_at, drop_at, drop-drop, sets, sets-eq}
+use lib.Seq.{length-take-le, take_at, drop_at, drop-drop}
 use Rattle.p0_refusals.specs.Answers.{onto}
 use Rattle.p6_draft.specs.Mirror.{put_at}
-
--- stores one after the other
-pub sets_put : (vs s : List ℕ) (at : ℕ) → at + length vs ≤ length s → sets s at vs ≡ put_at at vs s
-unfolding put_at
-sets_put vs s at h = sets-eq vs s at h ∙ append_assoc (take at s) vs (drop (at + length vs) s)
 
 pub put_none : (o : List ℕ) (s : ℕ) → o ≡ put_at s [] o
 unfolding put_at

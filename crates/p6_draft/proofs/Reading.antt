@@ -1,48 +1,15 @@
 -- Reading bytes: numbers, the settings, a cell, and the cells one after the other.
-use Prim.Native.Nat.{ℕ, zero, suc, ◌+◌, ◌*◌, ◌-◌, ◌/◌, ◌%◌, ◌<◌}
+use Prim.Native.Nat.{ℕ, zero, suc, ◌+◌, ◌*◌, ◌<◌}
 use mathlib.Core.Path.{◌≡◌, refl, ap, ◌∙◌}
 use mathlib.Core.List.{List, [], ◌∷◌, ◌++◌}
 use native.Mathlib.Omega.{arith}
-use lib.Dec.{eqb}
 use lib.ListN.{length, get_or}
-use Rattle.p0_choice.proofs.Choices.{picks}
-use Rattle.p2_input_method.specs.declared.InputMethod.{InputMethod}
 use Rattle.p3_cells.specs.Cells.{blank}
 use Rattle.p3_cells.specs.declared.Cell.{Cell}
-use Rattle.p3_cells.specs.declared.Mode.{Mode}
-use Rattle.p6_bytes.specs.Bytes.{method_of, mode_of}
-use Rattle.p6_zeros.specs.Zeros.{byte_at}
-use Rattle.p6_draft.specs.Mirror.{draft_start, draft_frame, four_at, read_mark, draft_cell_at, draft_cells_at, draft_settings, draft_count}
+use Rattle.p6_draft.specs.Mirror.{draft_cell_at, draft_cells_at}
 
 -- ---- numbers
-pub four_read : (b : List ℕ) (at n : ℕ)
-    → n ≡ byte_at b at * 16777216 + byte_at b (at + 1) * 65536 + byte_at b (at + 2) * 256 + byte_at b (at + 3) → n ≡ four_at b at
-unfolding four_at
-four_read b at n e = e
-
-pub mark_none : (byte base : ℕ) → byte ≡ 0 → 0 ≡ read_mark byte base
-unfolding read_mark
-mark_none byte base h = search picks
-
-pub mark_base : (byte base : ℕ) → (byte ≡ 0 → ⊥) → base % 65536 ≡ read_mark byte base
-unfolding read_mark
-mark_base byte base h = search picks
-
-pub count_read : (b : List ℕ) → (length b - draft_frame) / 7 ≡ draft_count b
-unfolding draft_count
-count_read b = refl
-
-pub settings_read : (b : List ℕ) (n : ℕ) (m : InputMethod) (o : Mode) → m ≡ method_of (byte_at b 3) → o ≡ mode_of (byte_at b 7)
-    → record { method = m; mode = o; capitals = eqb (byte_at b (draft_start n + 3)) 1 } ≡ draft_settings b n
-unfolding draft_settings
-settings_read b n m o p q = rw (p, q) refl
-
 -- ---- a cell
-pub cell_read : (b : List ℕ) (at base mark : ℕ) → base ≡ four_at b at → mark ≡ read_mark (byte_at b (at + 4)) base
-    → record { base = base; mark = mark; tone = byte_at b (at + 5); upper = eqb (byte_at b (at + 6)) 1 } ≡ draft_cell_at b at
-unfolding draft_cell_at
-cell_read b at base mark p q = rw (q, p) refl
-
 pub cells_length : (n : ℕ) (b : List ℕ) (at : ℕ) → length (draft_cells_at n b at) ≡ n
 cells_length zero b at = refl
 cells_length (suc n) b at = ap suc (cells_length n b (at + 7))

@@ -1,15 +1,15 @@
 -- The tests that the code makes of a draft's bytes: a field of one byte, a cell, the cells.
-use Prim.Native.Nat.{ℕ, ◌+◌, ◌*◌, ◌-◌, ◌/◌, ◌%◌, ◌≤◌, ◌<◌}
+use Prim.Native.Nat.{ℕ, ◌+◌, ◌*◌, ◌-◌, ◌%◌, ◌≤◌, ◌<◌}
 use mathlib.Core.Path.{◌≡◌, refl, sym, ap, ◌∙◌}
 use mathlib.Core.Bool.{Bool, true, false, not}
 use mathlib.Core.List.{List}
 use native.Mathlib.Omega.{arith}
 use lib.Dec.{eqb, ltb, leb}
 use lib.ListN.{length}
-use borrow.Author.Tests.{eq-eqb, ne_eqb, eqb-true, eqb-false, lt-ltb, ltb-true, ltb-false, le-ltb, le-leb, lt-leb, not-true, not-false}
+use borrow.Author.Tests.{eq-eqb, ne_eqb, eqb-true, eqb-false, ltb-true, ltb-false, le-leb, lt-leb, not-true, not-false}
 use mir.Syntax.{w8}
 use mir.Val.{Fits}
-use Rattle.p0_choice.specs.Choice.{pick, among, each, from as numbers}
+use Rattle.p0_choice.specs.Choice.{pick, among}
 use Rattle.p0_choice.specs.Text.{word}
 use Rattle.p0_choice.proofs.Tests.{both_are}
 use Rattle.p1_letters.specs.Alphabet.{in_alphabet}
@@ -24,44 +24,12 @@ use Rattle.p6_draft.specs.Mirror.{draft_start, four_at, read_mark, draft_cell_at
 use Rattle.p6_draft.specs.Mirror.{draft_frame, draft_length, draft_count, plain_at, draft_cells_fit, is_draft}
 
 -- ---- a field of one byte
-pub field_test : (b : List ℕ) (at tag r : ℕ) → r ≡ four_at b at → eqb (r / 2) (tag * 8388608 + 128) ≡ field_fits b at tag
-unfolding field_fits
-field_test b at tag r e = rw e refl
-
 -- ---- the fields beside n cells, in their order
 module _ (b : List ℕ) (n : ℕ) (v : Bool) (e : v ≡ field_fits b 0 1) where
-  pub method_wrong : not v ≡ true → false ≡ frame_fits b n
-  unfolding frame_fits
-  method_wrong q = rw (← e, not-true v q) refl
-
   module _ (q : not v ≡ false) (w : Bool) (f : w ≡ field_fits b 4 2) where
-    pub mode_wrong : not w ≡ true → false ≡ frame_fits b n
-    unfolding frame_fits
-    mode_wrong p = rw (← e, not-false v q, ← f, not-true w p) refl
-
     module _ (p : not w ≡ false) where
-      pub tag_wrong : (byte_at b 8 ≡ 3 → ⊥) → false ≡ frame_fits b n
-      unfolding frame_fits
-      tag_wrong h = rw (← e, not-false v q, ← f, not-false w p, ne_eqb (byte_at b 8) 3 h) refl
-
       module _ (h : byte_at b 8 ≡ 3) (r : ℕ) (d : r ≡ byte_at b 9 * 256 + byte_at b 10) where
-        pub length_wrong : (r ≡ 7 * n → ⊥) → false ≡ frame_fits b n
-        unfolding frame_fits
-        length_wrong l = rw (← e, not-false v q, ← f, not-false w p, eq-eqb (byte_at b 8) 3 h, ← d, ne_eqb r (7 * n) l) refl
-
-        pub capitals_decide : (u : Bool) → r ≡ 7 * n → u ≡ field_fits b (draft_start n) 4 → u ≡ frame_fits b n
-        unfolding frame_fits
-        capitals_decide u l k = rw (← e, not-false v q, ← f, not-false w p, eq-eqb (byte_at b 8) 3 h, ← d, eq-eqb r (7 * n) l) k
-
 -- ---- a plain cell
-pub plain_not : (b : List ℕ) (at w : ℕ) → w ≡ long_at b (at - 1) → 549755813888 ≤ w → false ≡ plain_at b at
-unfolding plain_at
-plain_not b at w e h = rw (← e, le-ltb w 549755813888 h) refl
-
-pub plain_test : (b : List ℕ) (at w : ℕ) → w ≡ long_at b (at - 1) → w < 549755813888 → ltb (w % 4294967296) 256 ≡ plain_at b at
-unfolding plain_at
-plain_test b at w e h = rw (← e, lt-ltb w 549755813888 h) refl
-
 eight : ℕ → ℕ → ℕ → ℕ → ℕ → ℕ → ℕ → ℕ → ℕ
 eight b0 b1 b2 b3 b4 b5 b6 b7 =
     b0 + b1 * 256 + b2 * 65536 + b3 * 16777216 + b4 * 4294967296 + b5 * 1099511627776 + b6 * 281474976710656 + b7 * 72057594037927936
@@ -200,37 +168,11 @@ module _ (b : List ℕ) (i : ℕ) where
           go false m = k m
 
 -- ---- the cells
-pub fit_is : (b : List ℕ) (n : ℕ) → draft_cells_fit b n ≡ each (draft_cell_fits b) (numbers n 0)
-unfolding draft_cells_fit
-fit_is b n = refl
-
 -- ---- the whole, with n cells
 module _ (b : List ℕ) where
-  pub too_short : length b < draft_frame → false ≡ is_draft b
-  unfolding is_draft
-  too_short h = rw (lt-ltb (length b) draft_frame h) refl
-
   module _ (l : draft_frame ≤ length b) (n : ℕ) (e : n ≡ draft_count b) where
-    pub too_many : limit < n → false ≡ is_draft b
-    unfolding is_draft
-    too_many h = rw (le-ltb (length b) draft_frame l, ← e, lt-ltb limit n h) refl
-
     module _ (f : n ≤ limit) where
-      pub length_off : (length b ≡ draft_length n → ⊥) → false ≡ is_draft b
-      unfolding is_draft
-      length_off h = rw (le-ltb (length b) draft_frame l, ← e, le-ltb limit n f, ne_eqb (length b) (draft_length n) h) refl
-
       module _ (d : length b ≡ draft_length n) (v : Bool) (g : v ≡ frame_fits b n) where
-        pub fields_wrong : not v ≡ true → false ≡ is_draft b
-        unfolding is_draft
-        fields_wrong q =
-            rw (le-ltb (length b) draft_frame l, ← e, le-ltb limit n f, eq-eqb (length b) (draft_length n) d, ← g, not-true v q) refl
-
-        pub cells_decide : (u : Bool) → not v ≡ false → u ≡ draft_cells_fit b n → u ≡ is_draft b
-        unfolding is_draft
-        cells_decide u q k =
-            rw (le-ltb (length b) draft_frame l, ← e, le-ltb limit n f, eq-eqb (length b) (draft_length n) d, ← g, not-false v q) k
-
 -- ---- what the tests have shown of a draft with n cells
 no_and : (t : Bool) {r : Bool} → pick t false r ≡ true → (t ≡ false) × (r ≡ true)
 no_and true e = let z : ◌≡◌ {A = ℕ} 0 1 = cc in absurd (omega arith)

@@ -1,38 +1,20 @@
 -- Writing a draft: a field, what stands before the cells, the cells one by one, what stands after them.
-use Prim.Native.Nat.{ℕ, suc, ◌+◌, ◌*◌, ◌/◌, ◌%◌, ◌≤◌, ◌<◌}
+use Prim.Native.Nat.{ℕ, suc, ◌+◌, ◌*◌, ◌≤◌, ◌<◌}
 use mathlib.Core.Path.{◌≡◌, refl, sym, ap, ◌∙◌}
 use mathlib.Core.List.{List, [], ◌∷◌, ◌++◌, append_assoc, append-nil}
 use native.Mathlib.Omega.{arith}
-use lib.ListN.{length, set, length-append}
+use lib.ListN.{length, length-append}
 use lib.Seq.{take-suc, length-take-le}
-use Rattle.p0_choice.proofs.Choices.{picks}
 use Rattle.p3_cells.specs.Cells.{limit, blank, used}
 use Rattle.p3_cells.specs.Mirror.{cell_of, places, first_cells}
 use Rattle.p3_cells.specs.declared.Cell.{Cell}
 use Rattle.p3_cells.specs.declared.Composition.{Composition}
 use Rattle.p6_bytes.specs.Bytes.{method_byte, mode_byte, flag_byte}
-use Rattle.p6_draft.specs.Draft.{field, mark_byte, draft_cell, draft_cells, fields, draft_of}
+use Rattle.p6_draft.specs.Draft.{field, draft_cell, draft_cells, fields, draft_of}
 use Rattle.p6_draft.specs.Mirror.{draft_head, draft_start, draft_length, put_at, field_start, head_fields}
-use Rattle.p6_draft.proofs.Put.{sets_put, put_none, put_more}
+use Rattle.p6_draft.proofs.Put.{put_none, put_more}
 
 -- ---- one field
-pub field_put : (s : List ℕ) (at tag v : ℕ) → at + 4 ≤ length s
-    → set (set (set (set s at tag) (at + 1) 0) (at + 2) 1) (at + 3) v ≡ put_at at (field tag (v ∷ [])) s
-unfolding field
-field_put s at tag v h =
-    let e1 : at + 1 ≡ suc at = omega arith in
-    let e2 : at + 2 ≡ suc (suc at) = omega arith in
-    let e3 : at + 3 ≡ suc (suc (suc at)) = omega arith in
-    rw (e1, e2, e3) (sets_put (tag ∷ 0 ∷ 1 ∷ v ∷ []) s at h)
-
-pub start_put : (s : List ℕ) (at tag n : ℕ) → at + 3 ≤ length s
-    → set (set (set s at tag) (at + 1) (n / 256)) (at + 2) (n % 256) ≡ put_at at (field_start tag n) s
-unfolding field_start
-start_put s at tag n h =
-    let e1 : at + 1 ≡ suc at = omega arith in
-    let e2 : at + 2 ≡ suc (suc at) = omega arith in
-    rw (e1, e2) (sets_put (tag ∷ (n / 256) ∷ (n % 256) ∷ []) s at h)
-
 -- ---- what stands before the cells
 pub head_put : (o b1 b2 new : List ℕ) (m k n : ℕ) → b1 ≡ put_at 0 (field 1 (m ∷ [])) o → b2 ≡ put_at 4 (field 2 (k ∷ [])) b1
     → new ≡ put_at 8 (field_start 3 (7 * n)) b2 → draft_head ≤ length o → new ≡ put_at 0 (head_fields m k n) o
@@ -41,30 +23,6 @@ head_put o b1 b2 new m k n e f g h =
     put_more o b2 new _ (field_start 3 (7 * n)) 0 8 (put_more o b1 b2 _ (field 2 (k ∷ [])) 0 4 e refl f (omega arith)) refl g (omega arith)
 
 -- ---- a cell
-pub mark_none : (x : Cell) → x.mark ≡ 0 → 0 ≡ mark_byte x
-unfolding mark_byte
-mark_none x h = search picks
-
-pub mark_there : (x : Cell) → (x.mark ≡ 0 → ⊥) → 1 ≡ mark_byte x
-unfolding mark_byte
-mark_there x h = search picks
-
-pub cell_put : (s : List ℕ) (at mark flag : ℕ) (x : Cell) → at + 7 ≤ length s → mark ≡ mark_byte x → flag ≡ flag_byte x.upper
-    → set (set (set
-    (set (set (set (set s at (x.base / 16777216)) (at + 1) (x.base / 65536 % 256)) (at + 2) (x.base / 256 % 256)) (at + 3)
-    (x.base % 256))
-    (at + 4) mark) (at + 5) x.tone) (at + 6) flag
-    ≡ put_at at (draft_cell x) s
-unfolding draft_cell
-cell_put s at mark flag x h p q =
-    let e1 : at + 1 ≡ suc at = omega arith in
-    let e2 : at + 2 ≡ suc (suc at) = omega arith in
-    let e3 : at + 3 ≡ suc (suc (suc at)) = omega arith in
-    let e4 : at + 4 ≡ suc (suc (suc (suc at))) = omega arith in
-    let e5 : at + 5 ≡ suc (suc (suc (suc (suc at)))) = omega arith in
-    let e6 : at + 6 ≡ suc (suc (suc (suc (suc (suc at))))) = omega arith in
-    rw (p, q, e1, e2, e3, e4, e5, e6) (sets_put _ s at h)
-
 -- ---- the cells
 pub cell_length : (x : Cell) → length (draft_cell x) ≡ 7
 unfolding draft_cell
@@ -96,15 +54,6 @@ module _ (c : Composition) (o : List ℕ) where
       ∙ cells_append (first_cells c i) x in
       rw t (put_more o b new (draft_cells (first_cells c i)) (draft_cell x) draft_head (draft_start i) e (omega arith) f
       (omega (arith, cell_length x)))
-
-  pub cells_done : (b : List ℕ) (i n : ℕ) → b ≡ put_at draft_head (draft_cells (first_cells c i)) o → i ≤ n → n ≤ i
-      → b ≡ put_at draft_head (draft_cells (first_cells c n)) o
-  cells_done b i n e l h = let z : i ≡ n = omega arith in rw z at e
-
-  pub used_done : (b : List ℕ) (i : ℕ) → b ≡ put_at draft_head (draft_cells (first_cells c i)) o → i ≤ c.count → c.count ≤ i
-      → b ≡ put_at draft_head (draft_cells (used c)) o
-  unfolding used
-  used_done b i e l h = cells_done b i c.count e l h
 
 -- ---- the whole draft
 pub draft_parts : (c : Composition) (n : ℕ) → length (used c) ≡ n

@@ -1,9 +1,9 @@
 // A composition as a draft, for keeping (document 02, 2026-02): tagged fields, written and read. docs/DRAFTS.md takes one apart.
 #![tactic(auto)]
 
-ghost use Rattle.std.specs.Prelude.{◌≡◌, [], ◌∷◌, ◌+◌, ◌*◌, ◌<◌, ◌≤◌, length};
+ghost use Rattle.std.specs.Prelude.{◌≡◌, [], ◌∷◌, ◌+◌, ◌<◌, ◌≤◌, length};
 ghost use Rattle.p3_cells.specs.Cells.{limit};
-ghost use Rattle.p6_draft.specs.Draft.{field, mark_byte, draft_cell};
+ghost use Rattle.p6_draft.specs.Draft.{field, draft_cell};
 ghost use Rattle.p6_draft.specs.Mirror.{draft_head, draft_start, draft_frame, draft_length, put_at, field_start, head_fields};
 ghost use Rattle.p6_draft.specs.Mirror.{four_at, read_mark, draft_cell_at, draft_settings, draft_count, field_fits, frame_fits};
 ghost use Rattle.p6_draft.specs.Mirror.{draft_cell_fits, plain_at, draft_cells_fit, is_draft};

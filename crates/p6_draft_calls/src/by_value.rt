@@ -1,9 +1,8 @@
 // Drafts of a composition by value, for a host in Rattle.
-ghost use Rattle.std.specs.Prelude.{◌≡◌, true, ◌≤◌, length};
+ghost use Rattle.std.specs.Prelude.{◌≡◌, true, length};
 ghost use Rattle.p0_refusals.specs.Answers.{answer, output};
-ghost use Rattle.p3_cells.specs.Cells.{limit, used};
-ghost use Rattle.p6_draft.specs.Draft.{draft_cells, Reading, Means};
-ghost use Rattle.p6_draft.specs.Mirror.{draft_head, draft_start, put_at, draft_composition, is_draft};
+ghost use Rattle.p6_draft.specs.Draft.{Reading, Means};
+ghost use Rattle.p6_draft.specs.Mirror.{draft_composition, is_draft};
 ghost use Rattle.p6_draft_calls.specs.Calls.{draft_outcome, read_to};
 
 use crate::cells::put_cells;

@@ -1,11 +1,9 @@
 // Drafts of a composition that is given as bytes, for a host in C. After a refusal not a byte has changed.
-ghost use Rattle.std.specs.Prelude.{◌≡◌, true, ◌≤◌, length};
+ghost use Rattle.std.specs.Prelude.{◌≡◌, true, length};
 ghost use Rattle.p0_refusals.specs.Answers.{answer, output};
-ghost use Rattle.p3_cells.specs.Cells.{limit};
-ghost use Rattle.p3_cells.specs.Mirror.{first_cells};
-ghost use Rattle.p6_bytes.specs.Bytes.{size, bytes_of, composition_of};
-ghost use Rattle.p6_draft.specs.Draft.{draft_cells, Reading, Means};
-ghost use Rattle.p6_draft.specs.Mirror.{draft_head, draft_start, put_at, draft_composition, is_draft};
+ghost use Rattle.p6_bytes.specs.Bytes.{bytes_of};
+ghost use Rattle.p6_draft.specs.Draft.{Reading, Means};
+ghost use Rattle.p6_draft.specs.Mirror.{draft_composition, is_draft};
 ghost use Rattle.p6_draft_calls.specs.Calls.{bytes_outcome, read_on, read_bytes};
 
 use crate::cells::put_cells;

@@ -1,12 +1,12 @@
 -- Reading bytes: the standing, the kept letters one by one, and the whole state.
 use Rattle.std.specs.Prelude.{Err, Ok}
 use Rattle.p0_refusals.specs.declared.Refusal.TheVariants.{Foreign, Long}
-use Prim.Native.Nat.{ℕ, zero, suc, ◌+◌, ◌*◌, ◌<◌, ◌≤◌}
+use Prim.Native.Nat.{ℕ, zero, suc, ◌+◌, ◌*◌, ◌<◌}
 use mathlib.Core.Path.{◌≡◌, refl, sym, ap, ◌∙◌}
 use mathlib.Core.List.{List, [], ◌∷◌, ◌++◌}
 use native.Mathlib.Omega.{arith}
 use lib.ListN.{length, take, set}
-use lib.Seq.{take_all, take-suc-set}
+use lib.Seq.{take-suc-set}
 use Rattle.p0_choice.proofs.Arms.{arm}
 use Rattle.p0_choice.proofs.Choices.{picks}
 use Rattle.p4_note_parts.specs.State.{Standing}
@@ -46,11 +46,6 @@ module _ (b kept : List ℕ) (i : ℕ) (e : take i kept ≡ kept_at i b kept_sta
   kept_on x h p =
       let s : i + 1 ≡ suc i = omega arith in
       rw s (take-suc-set kept i x h ∙ rw (e, p) (sym (kept_more i b kept_start)))
-
-  pub kept_done : length kept ≡ longest_length → i ≤ longest_length → longest_length ≤ i → kept ≡ kept_at longest_length b kept_start
-  kept_done n l h =
-      let z : i ≡ longest_length = omega arith in
-      sym (take_all i kept (omega arith)) ∙ e ∙ ap (λ (k : ℕ). kept_at k b kept_start) z
 
 -- ---- the whole state, of what its parts were read as
 pub line_read : (b kept : List ℕ) (o : Standing) (m r w n f : ℕ) → kept ≡ kept_at longest_length b kept_start → o ≡ standing_of (byte_at b 0)

@@ -1,7 +1,7 @@
 // The state of a note line as bytes, for a host in C: read, tested and written. docs/BYTES.md states their order.
 #![tactic(auto)]
 
-ghost use Rattle.std.specs.Prelude.{◌≡◌, ◌++◌, ◌+◌, ◌*◌, ◌≤◌, length, take, drop};
+ghost use Rattle.std.specs.Prelude.{◌≡◌, ◌++◌, ◌+◌, ◌≤◌, length, take};
 ghost use Rattle.p0_choice.specs.Choice.{pick};
 ghost use Rattle.p4_spelling.specs.Verdict.{longest_length};
 ghost use Rattle.p6_note_bytes.specs.Bytes.{kept_start, line_size, standing_byte, two_bytes, kept_bytes, line_head, line_bytes};
@@ -30,7 +30,6 @@ fn two_at(b: &[u8; SIZE], at: usize) -> u16
     u16::from_le_bytes([b[at], b[at + 1]])
 }
 
-#[tactic(auto, using(crate::proofs::Reading::kept_on, crate::proofs::Reading::kept_done))]
 fn kept_of(b: &[u8; SIZE]) -> [u32; LONGEST]
     ensures { result ≡ kept_at longest_length b.now kept_start }
 {
@@ -68,7 +67,7 @@ fn line_of(b: &[u8; SIZE]) -> Line
 }
 
 // The state that bytes spell, which is to be tested yet. Refusal: 10, for bytes that spell none.
-#[tactic(auto, using(p0_choice::proofs::Choices::picks), unfolding(crate::specs::Bytes::spells_line))]
+#[tactic(auto, unfolding(crate::specs::Bytes::spells_line))]
 fn read(state: &[u8]) -> Result<Line, Refusal>
     ensures { result ≡ pick (spells_line state.now) (Ok (line_of state.now)) (Err Refusal.Unsound) }
 {
@@ -147,7 +146,7 @@ fn put_line(b: &mut [u8], s: Line)
 // ---- the calls
 
 // A new line, in bytes that may be any. Refusal: 10, for another length.
-#[tactic(auto, using(p0_choice::proofs::Choices::picks, crate::proofs::Calls::begin_put), unfolding(crate::specs::Calls::line_begin_on, crate::specs::Calls::line_begin_bytes))]
+#[tactic(auto, using(crate::proofs::Calls::begin_put), unfolding(crate::specs::Calls::line_begin_on, crate::specs::Calls::line_begin_bytes))]
 pub fn begin(state: &mut [u8]) -> Result<usize, Refusal>
     ensures value { result ≡ line_begin_on state.old }
     ensures state_after { state.new ≡ line_begin_bytes state.old }

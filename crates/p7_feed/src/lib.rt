@@ -27,6 +27,7 @@ pub enum Phase {
 }
 
 // What goes on from one part of the input to the next: the line at hand, of which the first `len` bytes are held, and the phase.
+// That `len` is at most MOST is a clause and no ghost field: the definition `fed` of what goes on would have to prove it.
 #[derive(Clone, Copy)]
 pub struct Carry {
     pub line: [u8; MOST],

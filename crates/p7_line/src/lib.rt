@@ -38,7 +38,8 @@ fn digit(n: u32) -> u8
     DIGITS[n as usize]
 }
 
-// Each of these writes from the start of what it is lent, and gives how many bytes it wrote.
+// Each of these writes from the start of what it is lent, and gives how many bytes it wrote. It is lent a slice and no array of
+// ROOM bytes, since `feed` lends what is left of a longer output.
 
 pub fn put_refused(refusal: Refusal, out: &mut [u8]) -> usize
     requires { 11 ≤ length out.old }

@@ -7,7 +7,7 @@ use Rattle.std.proofs.lemmas.Bool.Decides.{same_from_decides, Decides-like, Deci
 use borrow.Author.Tests.{not-true, not-false}
 use Rattle.p0_choice.specs.Choice.{pick}
 use Rattle.p0_refusals.specs.Answers.{onto}
-use Rattle.p7_feed.specs.Mirror.{State, state, state_of, run_to, run_out, parts_to}
+use Rattle.p7_feed.specs.Mirror.{State, state, state_of, run_to, run_out, fed, parts_to}
 use Rattle.p7_feed.specs.declared.Carry.{Carry}
 use Rattle.p7_feed.specs.declared.Phase.{Phase}
 use Rattle.p7_feed.specs.declared.Phase.TheVariants.{Start}
@@ -58,6 +58,9 @@ module _ (input : Input) (k : ℕ) (part p : List ℕ) (e : k ≡ amount input) 
 
   pub held_given : (s t : State) → t ≡ run_to s p → t ≡ run_to s (bytes_read input part)
   held_given s t h = rw (← given) h
+
+  pub fed_given : (c d : Carry) → d ≡ fed c p → d ≡ fed c (bytes_read input part)
+  fed_given c d h = rw (← given) h
 
   pub printed_given : (s : State) (o o' : List ℕ) → o' ≡ onto (run_out s p) o → o' ≡ onto (run_out s (bytes_read input part)) o
   printed_given s o o' h = rw (← given) h

@@ -5,7 +5,7 @@
 ghost use Rattle.std.specs.Prelude.{◌≤◌, ◌≡◌, true, false, length, is_ok, MatchOption};
 ghost use Rattle.p0_refusals.specs.Answers.{onto};
 ghost use Rattle.p7_line.specs.Line.{most};
-ghost use Rattle.p7_feed.specs.Mirror.{state_of, part_most, out_room, run_to, run_out};
+ghost use Rattle.p7_feed.specs.Mirror.{state_of, part_most, out_room, run_to, run_out, fed};
 ghost use Rattle.p7_wordline.specs.Mirror.{input_of, amount as amount_of, bytes_read, is_over, goes_on, Came};
 ghost use Rattle.p7_wordline.specs.declared.Input.TheVariants.{NoMore};
 
@@ -45,6 +45,7 @@ fn input_of(said: io::Result<usize>, part: &[u8]) -> Input
             }
             Input::Failed(error)
         }
+        // an arm `Ok(0)` would leave the proof no fact about k to cite
         Ok(k) => {
             if k == 0 {
                 return Input::NoMore;
@@ -70,7 +71,7 @@ fn turn(from: &mut Stdin, to: Stdout, part: &mut [u8], carry: &mut Carry, out: &
     requires { (length part.old ≡ part_most) × (carry.old.len ≤ most) × (length out.old ≡ out_room)
         × (is_over carry.old.phase ≡ false) }
     ensures held { (state_of carry.new ≡ run_to (state_of carry.old) (bytes_read result.input part.new))
-        × (carry.new.len ≤ most) }
+        × (carry.new ≡ fed carry.old (bytes_read result.input part.new)) × (carry.new.len ≤ most) }
     ensures printed { out.new ≡ onto (run_out (state_of carry.old) (bytes_read result.input part.new)) out.old }
 {
     let said = from.read(part);

@@ -1,4 +1,4 @@
-use Rattle.std.proofs.Common.{◌≡◌, ◌+◌, ◌-◌, Bool, false, drop, arith}
+use Rattle.std.proofs.Common.{◌≡◌, ◌+◌, ◌-◌, false, drop, arith}
 use Rattle.p3_cells.specs.Mirror.{row_cells}
 use Rattle.p3_tone.specs.TonePlace.{any_separates}
 use Rattle.p3_tone.proofs.Syllable.{start_found}

@@ -2,7 +2,7 @@ use Rattle.std.proofs.Common.{rules}
 use borrow.Author.Tests.{tests}
 use Rattle.p6_bytes.proofs.Sound.{last_decides, no_head, no_count, no_cells}
 use Rattle.p6_bytes.proofs.is_sound.Goals as goal
-use Rattle.p6_bytes.proofs.is_sound.Goals.{then-head_fits, else-head_fits, then-n-le-LIMIT, else-n-le-LIMIT}
+use Rattle.p6_bytes.proofs.is_sound.Goals.{then-n-le-LIMIT, else-n-le-LIMIT}
 
 pub returns-then-cells_fit : goal.returns-then-cells_fit
 returns-then-cells_fit c =
