@@ -41,7 +41,11 @@ pub fn pop_last(c: &mut Composition, out: &mut [u32]) -> Result<usize, Refusal>
     k.answer
 }
 
-pub fn undo_telex_transform(c: &mut Composition, trigger: u32, raw: &[u32]) -> Result<TelexUndo, Refusal>
+pub fn undo_telex_transform(
+    c: &mut Composition,
+    trigger: u32,
+    raw: &[u32],
+) -> Result<TelexUndo, Refusal>
     ensures { (c.new ≡ (undo_telex c.old trigger raw.now).comp)
         × (result ≡ (undo_telex c.old trigger raw.now).answer) }
 {
