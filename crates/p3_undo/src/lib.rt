@@ -126,6 +126,7 @@ fn has_mark(m: u16, s: u32) -> bool
     s == u32::from(m)
 }
 
+// This and the next differ in the test. `row.iter().rposition(..)` was tried: no law of std leads from it to the row.
 #[tactic(auto, using(crate::proofs::Undo::with_turn, crate::proofs::Undo::with_none))]
 fn last_toned(row: &[u32], t: u32) -> Option<usize>
     ensures { result ≡ last_with (has_tone t) (sign_cells row.now) (length row.now) }

@@ -111,7 +111,8 @@ fn open_accepted(kept: &[u32; LONGEST], run: usize) -> bool
     run <= LONGEST && spelling::accepts(&kept[..run])
 }
 
-// What is counted, the open word too.
+// What is counted, the open word too. That a state is sound is asked here and below, and is in no type: a host hands states in by value, and
+// a type would owe it for each state that is made.
 #[tactic(auto, using(crate::proofs::Words::none_open, crate::proofs::Words::one_open, crate::proofs::Words::run_within, crate::proofs::Words::few_words, crate::proofs::Words::few_noes))]
 fn counted(s: Line) -> Report
     requires { line_sound s ≡ true }

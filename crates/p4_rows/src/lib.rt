@@ -29,7 +29,8 @@ const VC_MATRIX: [[bool; 5]; 8] = [
 ];
 
 // A part's letters as one number, four hexadecimal digits a letter and the number of letters last, so that no two
-// parts have one key and the tables below can be read. 0 for what no table has: no letter, over three, or beyond U+FFFF.
+// parts have one key and the tables below can be read. 0 for what no table has: no letter, over three, or beyond U+FFFF. By parts
+// themselves a table would be tests in turn, sixty for the vowels.
 #[tactic(auto, unfolding(crate::specs::Mirror::key_of))]
 fn key(part: &[u32]) -> u64
     ensures { result ≡ key_of part.now }
@@ -163,6 +164,7 @@ fn coda_rows(key: u64) -> &'static [usize]
     }
 }
 
+// Three tables and three names: one function would be handed the table, which the name already says.
 #[tactic(auto, using(crate::proofs::Keys::looks_up_onset))]
 pub fn lookup_onset(part: &[u32]) -> &'static [usize]
     ensures { result.now ≡ rows_of onset_rows part.now }
@@ -210,7 +212,6 @@ fn pair_valid<const N: usize>(matrix: &[[bool; N]], first: &[usize], second: &[u
 }
 
 // Some row of the onset goes with some row of the vowels.
-
 pub fn cv_valid(onset: &[usize], vowels: &[usize]) -> bool
     ensures { result ≡ go_together onset_to_vowels onset.now vowels.now }
 {
@@ -218,7 +219,6 @@ pub fn cv_valid(onset: &[usize], vowels: &[usize]) -> bool
 }
 
 // Some row of the vowels goes with some row of the coda.
-
 pub fn vc_valid(vowels: &[usize], coda: &[usize]) -> bool
     ensures { result ≡ go_together vowels_to_coda vowels.now coda.now }
 {

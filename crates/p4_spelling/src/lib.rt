@@ -27,7 +27,7 @@ pub struct CutPlaces {
     pub vowels: usize,
 }
 
-// How many letters stand before the first vowel.
+// How many letters stand before the first vowel. It and the next differ in a `!`: one function over a closure would be longer than both.
 fn before_vowel(word: &[u32]) -> usize
     ensures { result ≡ before_vowel word.now }
 {
@@ -75,7 +75,7 @@ pub fn cut_at(word: &[u32]) -> CutPlaces
     }
 }
 
-// The parts of a word between such places; empty where they do not stand in it.
+// The parts of a word between such places; empty where they do not stand in it. Each is a range of its own.
 #[tactic(auto, unfolding(crate::specs::Answers::onset_part))]
 pub fn onset_part(word: &[u32], at: CutPlaces) -> &[u32]
     ensures { result.now ≡ onset_part word.now at }

@@ -139,6 +139,7 @@ pub fn checked_mut(b: &mut [u8]) -> Option<&mut [u8; SIZE]>
 
 // ---- its settings and numbers, each of which is one byte
 
+// Every byte is a method here, as it is a mode, since the test has been made: no TryFrom, which could fail.
 #[tactic(auto, unfolding(crate::specs::Bytes::method_of))]
 pub fn method_of(x: u8) -> InputMethod
     ensures { result ≡ method_of x }

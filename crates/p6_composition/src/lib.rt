@@ -1,5 +1,6 @@
 // The calls on a composition given as bytes, which they find altered there. Each tests the bytes once; then cells are read
-// and stored where they lie. After a refusal not a byte has changed.
+// and stored where they lie. After a refusal not a byte has changed. A call begins with a `let .. else` and no `?`: a Result cannot say
+// what it lends of a slice.
 #![tactic(auto)]
 
 ghost use Rattle.std.specs.Prelude.{ℕ, map, ◌≡◌, true, ◌++◌, ◌<◌, ◌≤◌, length, take, drop};
@@ -20,7 +21,7 @@ ghost use Rattle.p6_composition.specs.Calls.{method_on, mode_on, capitals_on, te
 use p0_refusals::{LETTERS, Refusal};
 use p1_letters as letters;
 use p3_cells as cells;
-use p3_cells::{Cell, LIMIT, Settings};
+use p3_cells::{Cell, LIMIT, Mode, Settings};
 use p3_step as step;
 use p3_step::{Change, Step};
 use p3_undo as undo;
@@ -97,15 +98,14 @@ pub fn process_key(state: &mut [u8], key: u32, out: &mut [u32]) -> Result<usize,
     if !letters::in_alphabet(key) {
         return Err(Refusal::Foreign);
     }
-    let o = bytes::mode_number(state);
-    if o == 1 {
-        if out.len() < 1 {
+    let z = bytes::settings(state);
+    if let Mode::English = z.mode {
+        if out.is_empty() {
             return Err(Refusal::Short);
         }
         out[0] = key;
         return Ok(1);
     }
-    let z = bytes::settings(state);
     let k = letters::ascii_lower(key);
     let s = step_on(state, z, k, bytes::cell_count(state));
     let count = s.count;
@@ -251,7 +251,7 @@ pub fn undo_telex_transform(state: &mut [u8], trigger: u32, raw: &[u32]) -> Resu
     undo_found(state, bytes::cell_count(state), raw, t)
 }
 
-// ---- the settings by their numbers
+// ---- the settings by their numbers, each stored as the byte that it is: by `try_from` it would be turned back into its number
 
 pub fn set_method(state: &mut [u8], method: u32) -> Result<usize, Refusal>
     ensures { (result ≡ answer_on state.old (method_on state.old method))

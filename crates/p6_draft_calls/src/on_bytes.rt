@@ -1,4 +1,5 @@
-// Drafts of a composition that is given as bytes, for a host in C. After a refusal not a byte has changed.
+// Drafts of a composition that is given as bytes, for a host in C. After a refusal not a byte has changed. These calls and those by
+// value are two: bytes are lent and hold the settings as numbers. What the two share is in p6_draft and in `cells`.
 ghost use Rattle.std.specs.Prelude.{◌≡◌, true, length};
 ghost use Rattle.p0_refusals.specs.Answers.{answer, output};
 ghost use Rattle.p6_bytes.specs.Bytes.{bytes_of};

@@ -40,6 +40,7 @@ fn kept_of(b: &[u8; SIZE]) -> [u32; LONGEST]
     kept
 }
 
+// A function, as is `standing_byte`: a standing is std's Result, of which no impl may stand here.
 #[tactic(auto, using(crate::proofs::Reading::read_going, crate::proofs::Reading::read_foreign, crate::proofs::Reading::read_long))]
 fn standing_of(x: u8) -> Standing
     ensures { result ≡ standing_of x }
@@ -123,6 +124,7 @@ fn head(s: Line) -> [u8; HEAD]
     ]
 }
 
+// Over a slice, as is `put_line`: to lend an array of it to be written would be a second `try_from`, with an error that cannot come.
 #[tactic(auto, using(crate::proofs::Writing::put_none, crate::proofs::Writing::put_done))]
 fn put_kept(b: &mut [u8], kept: &[u32; LONGEST])
     requires { length b.old ≡ line_size }

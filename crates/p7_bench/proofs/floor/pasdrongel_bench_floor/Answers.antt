@@ -9,6 +9,6 @@ loop-k-init c = search (rules, lay_start)
 pub loop-k-preserved : goal.loop-k-preserved
 loop-k-preserved c =
     elim c.if-k-eq10.branch [
-      then-k-eq10 w ↦ search (rules, lay_line)
-    | else-k-eq10 w ↦ search (rules, lay_more)
+      | then-k-eq10 w ↦ search (rules, lay_line)
+      | else-k-eq10 w ↦ search (rules, lay_more)
     ]
