@@ -6,7 +6,8 @@ use mathlib.Core.Bool.{Bool, true, false, not}
 use mathlib.Core.List.{List, [], ◌∷◌, ◌++◌, map}
 use native.Mathlib.Omega.{arith}
 use lib.ListN.{length, take, drop, set, length-set}
-use borrow.Author.Tests.{lt-ltb, le-ltb, not-true}
+use lib.Dec.{eqb}
+use borrow.Author.Tests.{lt-ltb, le-ltb, not-true, eqb-true, eqb-false}
 use mir.Syntax.{w8}
 use mir.Val.{Fits}
 use Rattle.p0_refusals.specs.declared.Refusal.{Refusal}
@@ -37,7 +38,7 @@ use Rattle.p3_step.specs.Mirror.{appends_at, step_of, put_cell, also_cell, also_
 use Rattle.p3_step.specs.declared.Step.{Step}
 use Rattle.p3_step.proofs.Makes.{stepped, still_same, Makes, step_makes}
 use Rattle.p3_step.proofs.Same.{step_same}
-use Rattle.p6_bytes.specs.Bytes.{mode_byte, bytes_of, composition_of, bytes_sound}
+use Rattle.p6_bytes.specs.Bytes.{bytes_of, composition_of, bytes_sound}
 use Rattle.p6_zeros.specs.Zeros.{byte_at}
 use Rattle.p6_bytes.specs.Mirror.{stored}
 use Rattle.p6_bytes.proofs.Round.{read_written}
@@ -66,13 +67,16 @@ module _ (b : List ℕ) (s : bytes_sound b ≡ true) (z : Settings) (k n : ℕ) 
       h ∙ ap (λ (x : List ℕ). step_of z (row_cells x) k) (g ∙ rw d (f ∙ rw p refl))
 
 -- ---- the mode
-english : (m : Mode) (o : ℕ) → o ≡ mode_byte m → o ≡ 1 → m ≡ English
-english English o p e = refl
-english Vietnamese o p e = absurd (omega arith)
+vietnamese : (m : Mode) → (m ≡ English → ⊥) → m ≡ Vietnamese
+vietnamese Vietnamese e = refl
+vietnamese English e = absurd (e refl)
 
-vietnamese : (m : Mode) (o : ℕ) → o ≡ mode_byte m → (o ≡ 1 → ⊥) → m ≡ Vietnamese
-vietnamese Vietnamese o p e = refl
-vietnamese English o p e = absurd (e p)
+-- ---- the room of a letter
+pub no_room_in : (o : List ℕ) (v : Bool) → v ≡ eqb (length o) 0 → v ≡ true → length o < 1
+no_room_in o v e t = let z : length o ≡ 0 = eqb-true (length o) 0 (sym e ∙ t) in omega (arith, z)
+
+pub room_in : (o : List ℕ) (v : Bool) → v ≡ eqb (length o) 0 → v ≡ false → 1 ≤ length o
+room_in o v e t = let z : length o ≡ 0 → ⊥ = eqb-false (length o) 0 (sym e ∙ t) in omega (arith, z)
 
 -- ---- the letters
 one_letter : (z : Settings) (key : ℕ) (cells : List Cell) (o : List ℕ) → z.mode ≡ English → 0 < length cells → 1 ≤ length o
@@ -137,12 +141,15 @@ module _ (b : List ℕ) (s : bytes_sound b ≡ true) (key : ℕ) (o : List ℕ) 
       foreign_key = refused Foreign foreign
 
     -- ---- English mode
-    module _ (w : not u ≡ false) (i : ℕ) (h : i ≡ mode_byte (composition_of b).settings.mode) where
-      module _ (z : i ≡ 1) where
+    module _ (w : not u ≡ false) (y : Settings) (g : y ≡ (composition_of b).settings) where
+      module _ (z : y.mode ≡ English) where
+        english : (composition_of b).settings.mode ≡ English
+        english = rw g at z
+
         module _ (l : length o < 1) where
           no_room : IsStroke (no_stroke Short (composition_of b).count)
           unfolding pass_stroke
-          no_room = stroke_pass true _ _ key _ _ _ u refl a w (english _ i h z) (rw (lt-ltb (length o) 1 l) refl)
+          no_room = stroke_pass true _ _ key _ _ _ u refl a w english (rw (lt-ltb (length o) 1 l) refl)
 
           pub pass_short : Refuses Short
           pass_short = refused Short no_room
@@ -150,7 +157,7 @@ module _ (b : List ℕ) (s : bytes_sound b ≡ true) (key : ℕ) (o : List ℕ) 
         module _ (l : 1 ≤ length o) where
           passes : IsStroke (wrote_key (composition_of b).count)
           unfolding pass_stroke
-          passes = stroke_pass true _ _ key _ _ _ u refl a w (english _ i h z) (rw (le-ltb (length o) 1 l) refl)
+          passes = stroke_pass true _ _ key _ _ _ u refl a w english (rw (le-ltb (length o) 1 l) refl)
 
           pub pass_told : Ok 1 ≡ answer_on b (key_on b key o)
           pass_told = told _ passes
@@ -158,22 +165,22 @@ module _ (b : List ℕ) (s : bytes_sound b ≡ true) (key : ℕ) (o : List ℕ) 
           pub pass_stays : ((j : ℕ) → Fits w8 (byte_at b j)) → b ≡ bytes_on b (key_on b key o)
           unfolding bytes_on key_on
           pass_stays f =
-              rw (← pass_told) (sym (ap bytes_of (english_stays (composition_of b) key (length o) (english _ i h z)) ∙ lent b f s))
+              rw (← pass_told) (sym (ap bytes_of (english_stays (composition_of b) key (length o) english) ∙ lent b f s))
 
           pub pass_out : set o 0 key ≡ out_on b (key_outcome (composition_of b) key) o
           unfolding letters_to
           pass_out = letters_out _ (set o 0 key) passes
               (rw (still_same (composition_of b) key (ascii_lower key))
-              (one_letter (composition_of b).settings key (composition_of b).cells o (english _ i h z) (omega (arith, cells_all b)) l))
+              (one_letter (composition_of b).settings key (composition_of b).cells o english (omega (arith, cells_all b)) l))
 
       -- ---- Vietnamese
-      module _ (z : i ≡ 1 → ⊥) (y : Settings) (k : ℕ) (r : Step) (g : y ≡ (composition_of b).settings) (x : k ≡ ascii_lower key)
+      module _ (z : y.mode ≡ English → ⊥) (k : ℕ) (r : Step) (x : k ≡ ascii_lower key)
           (q : r ≡ step_of y (row_cells (bases (used (composition_of b)))) k) where
         step_is : r ≡ step_of (composition_of b).settings (row_cells (bases (used (composition_of b)))) k
         step_is = q ∙ ap (λ (j : Settings). step_of j (row_cells (bases (used (composition_of b)))) k) g
 
         by_step : (d : Stroke) → d ≡ step_stroke r (composition_of b).count (length o) → IsStroke d
-        by_step d j = stroke_step true _ _ key _ _ d u refl a k r w (vietnamese _ i h z) x step_is j
+        by_step d j = stroke_step true _ _ key _ _ d u refl a k r w (vietnamese (composition_of b).settings.mode (rw g at z)) x step_is j
 
         makes : Makes (composition_of b).settings r (used (composition_of b))
             (key_cells (composition_of b).settings (used (composition_of b)) key) key (ascii_lower key)
@@ -241,7 +248,7 @@ module _ (b : List ℕ) (s : bytes_sound b ≡ true) (key : ℕ) (o : List ℕ) 
               key_written text j =
                   letters_out (wrote r) text writes
                   (j ∙ ap (λ (d : Composition). first_text d r.count ++ drop r.count o) now_is
-                  ∙ all_letters_lem key (stroked (composition_of b) (wrote r) key) r.count o (vietnamese _ i h z))
+                  ∙ all_letters_lem key (stroked (composition_of b) (wrote r) key) r.count o (vietnamese (composition_of b).settings.mode (rw g at z)))
 
               pub done_key : (text : List ℕ) → text ≡ first_text (composition_of new) r.count ++ drop r.count o
                   → (Ok r.count ≡ answer_on b (key_on b key o)) × (new ≡ bytes_on b (key_on b key o))
