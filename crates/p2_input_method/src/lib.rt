@@ -3,8 +3,7 @@
 
 ghost use Rattle.std.specs.Prelude.{◌≡◌};
 ghost use Rattle.p2_input_method.specs.Rules.{is_tone_key, mark_rules, is_horn_key};
-ghost use Rattle.p2_input_method.specs.Numbers.{method_numbered};
-ghost use Rattle.p2_input_method.specs.Mirror.{mark_found};
+ghost use Rattle.p2_input_method.specs.Mirror.{mark_found, method_numbered};
 ghost use Rattle.p2_input_method.specs.declared.InputMethod.TheVariants.{Telex};
 
 use p0_refusals::Refusal;
@@ -29,7 +28,7 @@ impl TryFrom<u32> for InputMethod {
 
     ghost try_from_gives = { λ number method. method ≡ method_numbered number };
 
-    #[tactic(auto, unfolding(crate::specs::Numbers::method_numbered))]
+    #[tactic(auto, unfolding(crate::specs::Mirror::method_numbered))]
     fn try_from(number: u32) -> Result<InputMethod, Refusal> {
         match number {
             0 => Ok(InputMethod::Telex),

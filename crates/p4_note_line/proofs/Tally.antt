@@ -1,4 +1,4 @@
--- The words of a line, counted one by one, give what is told of it.
+-- The words of a line, reported one by one, give what is told of it.
 use Prim.Native.Nat.{ℕ, suc, ◌+◌}
 use mathlib.Core.Path.{◌≡◌, refl, ◌∙◌}
 use mathlib.Core.Bool.{Bool, true, false}
@@ -12,7 +12,7 @@ use Rattle.p0_choice.specs.Choice.{pick}
 use Rattle.p4_spelling.specs.Verdict.{verdict}
 use Rattle.p4_note_line.specs.declared.Report.{Report}
 use Rattle.p4_note_line.specs.Line.{Placed, judged_no, first_start, line_words, line_report}
-use Rattle.p4_note_line.specs.Mirror.{one_more, counted, counted_from}
+use Rattle.p4_note_line.specs.Mirror.{one_more, reported, counted_from}
 
 -- what is told of c with k words more, of which ns are judged no
 abbrev with : Report → ℕ → List Placed → Report
@@ -32,8 +32,8 @@ one_more_with c k ns p false =
     let n : c.noes + 1 + length ns ≡ c.noes + suc (length ns) = omega arith in
     rw (w, n, add-one c.noes, eqb-suc-zero c.noes) refl
 
-counted_with : (c : Report) (ps : List Placed) → counted c ps ≡ with c (length ps) (judged_no ps)
-unfolding counted judged_no first_start
+counted_with : (c : Report) (ps : List Placed) → reported c ps ≡ with c (length ps) (judged_no ps)
+unfolding reported judged_no first_start
 counted_with c [] = rw (add-zero c.words, add-zero c.noes, either_way (eqb c.noes 0) c.first) refl
 counted_with c (p ∷ ps) =
     counted_with (one_more c p.start (verdict p.letters)) ps

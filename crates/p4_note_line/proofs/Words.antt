@@ -13,7 +13,7 @@ use Rattle.p1_letters.specs.Alphabet.{is_separator}
 use Rattle.p4_spelling.specs.Verdict.{verdict}
 use Rattle.p4_note_line.specs.Line.{Placed, until_gap, line_words_from}
 use Rattle.p4_note_line.specs.declared.Report.{Report}
-use Rattle.p4_note_line.specs.Mirror.{gap_run, one_more, counted, counted_from, CanCount, BeginsWord}
+use Rattle.p4_note_line.specs.Mirror.{gap_run, one_more, reported, counted_from, CanCount, BeginsWord}
 use Rattle.p4_spelling.proofs.Scans.{whole_rest}
 use Rattle.p4_note_line.proofs.Scans.{gap_le, word_le}
 
@@ -101,13 +101,13 @@ module _ (xs : List ℕ) (at n : ℕ) (c : Report) (e : n ≡ gap_run xs) where
 
   pub gap_next : (r : Report) → r ≡ counted_from c (at + n) (take (length xs - n) (drop n xs)) → r ≡ counted_from c at xs
   unfolding counted_from
-  gap_next r q = q ∙ rw (rest_is, e) (ap (counted c) (sym (over_gap at xs)))
+  gap_next r q = q ∙ rw (rest_is, e) (ap (reported c) (sym (over_gap at xs)))
 
   pub gap_last : n ≡ length xs → c ≡ counted_from c at xs
-  unfolding counted_from counted line_words_from
+  unfolding counted_from reported line_words_from
   gap_last l =
       let past : length xs ≤ gap_run xs = omega arith in
-      sym (ap (counted c) (over_gap at xs ∙ ap (line_words_from false (at + gap_run xs)) (drop_of_length-le xs past)))
+      sym (ap (reported c) (over_gap at xs ∙ ap (line_words_from false (at + gap_run xs)) (drop_of_length-le xs past)))
 
   pub gap_begins : (n ≡ length xs → ⊥) → BeginsWord (take (length xs - n) (drop n xs))
   gap_begins d =
@@ -144,9 +144,9 @@ module _ (xs : List ℕ) (at n : ℕ) (c : Report) (b : BeginsWord xs) (e : n �
 
   pub word_next : (v : Bool) (o r : Report) → v ≡ verdict (take n xs) → o ≡ one_more c at v
       → r ≡ counted_from o (at + n) (take (length xs - n) (drop n xs)) → r ≡ counted_from c at xs
-  unfolding counted_from counted
+  unfolding counted_from reported
   word_next v o r q m h =
-      h ∙ rw (whole, m, q) (ap (counted c) (sym read))
+      h ∙ rw (whole, m, q) (ap (reported c) (sym read))
 
   pub word_counts : (v : Bool) (o : Report) → o ≡ one_more c at v → CanCount at xs c
       → CanCount (at + n) (take (length xs - n) (drop n xs)) o

@@ -17,13 +17,13 @@ one_more c at true = record { words = c.words + 1; noes = c.noes; first = c.firs
 one_more c at false = record { words = c.words + 1; noes = c.noes + 1; first = pick (eqb c.noes 0) at c.first }
 
 -- with these words more, in their order
-unfoldable pub counted : Report → List Placed → Report
-counted c [] = c
-counted c (p ∷ ps) = counted (one_more c p.start (verdict p.letters)) ps
+unfoldable pub reported : Report → List Placed → Report
+reported c [] = c
+reported c (p ∷ ps) = reported (one_more c p.start (verdict p.letters)) ps
 
 -- with the words of the letters that stand after `at` others, where a gap stands or a word begins
 unfoldable pub counted_from : Report → ℕ → List ℕ → Report
-counted_from c at xs = counted c (line_words_from false at xs)
+counted_from c at xs = reported c (line_words_from false at xs)
 
 -- ---- what the readers ask
 -- a line within the limit, and no more words than letters before

@@ -14,7 +14,7 @@ use Rattle.p0_choice.proofs.Numbers.{below_or_not}
 use Rattle.p0_choice.proofs.Tables.{among_above, pick_first, pick_second}
 use Rattle.p4_rows.specs.Lookup.{allows, allows_any, go_together}
 use Rattle.p4_rows.specs.Rows.{onset_to_vowels, vowels_to_coda}
-use Rattle.p4_rows.specs.Mirror.{told, any_told}
+use Rattle.p4_rows.specs.Mirror.{entry, any_entry}
 
 -- w columns wide
 unfoldable pub yes_no : ℕ → List (List ℕ) → List (List Bool)
@@ -36,7 +36,7 @@ module _ (n : ℕ) where
   Fits g = T (each (λ (row : List ℕ). each (λ (y : ℕ). leb y n) row) g)
 
   -- so the matrix as yes and no says the same of any two rows
-  told_as : (g : List (List ℕ)) → Fits g → (i j : ℕ) → told (yes_no (suc n) g) i j ≡ allows g i j
+  told_as : (g : List (List ℕ)) → Fits g → (i j : ℕ) → entry (yes_no (suc n) g) i j ≡ allows g i j
   unfolding yes_no allows
   told_as [] t i j = refl
   told_as (row ∷ g) t zero j =
@@ -50,13 +50,13 @@ module _ (n : ℕ) where
   either true b c d e f = rw (← e)
   either false b c d e f = rw (← e) f
 
-  row_told_as : (g : List (List ℕ)) → Fits g → (i : ℕ) (js : List ℕ) → list_any (told (yes_no (suc n) g) i) js ≡ allows_any g i js
+  row_told_as : (g : List (List ℕ)) → Fits g → (i : ℕ) (js : List ℕ) → list_any (entry (yes_no (suc n) g) i) js ≡ allows_any g i js
   unfolding allows_any
   row_told_as g t i [] = refl
   row_told_as g t i (j ∷ js) = either _ _ _ _ (told_as g t i j) (row_told_as g t i js)
 
   -- and of any two parts
-  any_told_as : (g : List (List ℕ)) → Fits g → (is js : List ℕ) → any_told (yes_no (suc n) g) is js ≡ go_together g is js
+  any_told_as : (g : List (List ℕ)) → Fits g → (is js : List ℕ) → any_entry (yes_no (suc n) g) is js ≡ go_together g is js
   unfolding go_together
   any_told_as g t [] js = refl
   any_told_as g t (i ∷ is) js = either _ _ _ _ (row_told_as g t i js) (any_told_as g t is js)
@@ -71,10 +71,10 @@ module _ (p : ℕ → Bool) (xs : List ℕ) where
 
 -- ---- the code's two matrices
 module _ (is js : List ℕ) (r : Bool) where
-  pub cv_told : r ≡ any_told (yes_no 8 onset_to_vowels) is js → r ≡ go_together onset_to_vowels is js
+  pub cv_told : r ≡ any_entry (yes_no 8 onset_to_vowels) is js → r ≡ go_together onset_to_vowels is js
   unfolding onset_to_vowels
   cv_told e = e ∙ any_told_as 7 onset_to_vowels tt is js
 
-  pub vc_told : r ≡ any_told (yes_no 5 vowels_to_coda) is js → r ≡ go_together vowels_to_coda is js
+  pub vc_told : r ≡ any_entry (yes_no 5 vowels_to_coda) is js → r ≡ go_together vowels_to_coda is js
   unfolding vowels_to_coda
   vc_told e = e ∙ any_told_as 4 vowels_to_coda tt is js

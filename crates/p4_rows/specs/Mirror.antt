@@ -42,9 +42,9 @@ unfoldable pub rows_on : List (List ℕ) → ℕ → List ℕ
 rows_on rows k = rows_on_from 0 rows k
 
 -- the matrix as yes and no: what it has for row i and column j; no where it has not both
-abbrev pub told : List (List Bool) → ℕ → ℕ → Bool
-told m i j = get_or (get_or m i []) j false
+abbrev pub entry : List (List Bool) → ℕ → ℕ → Bool
+entry m i j = get_or (get_or m i []) j false
 
 -- some row of is goes with some row of js
-abbrev pub any_told : List (List Bool) → List ℕ → List ℕ → Bool
-any_told m is js = list_any (λ i. list_any (told m i) js) is
+abbrev pub any_entry : List (List Bool) → List ℕ → List ℕ → Bool
+any_entry m is js = list_any (λ i. list_any (entry m i) js) is

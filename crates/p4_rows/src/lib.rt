@@ -5,7 +5,7 @@
 ghost use Rattle.std.specs.Prelude.{◌≡◌};
 ghost use Rattle.p4_rows.specs.Rows.{onset_rows, vowel_rows, coda_rows, onset_to_vowels, vowels_to_coda};
 ghost use Rattle.p4_rows.specs.Lookup.{rows_of, go_together};
-ghost use Rattle.p4_rows.specs.Mirror.{key_of, rows_on, onset_keys, vowel_keys, coda_keys, told, any_told};
+ghost use Rattle.p4_rows.specs.Mirror.{key_of, rows_on, onset_keys, vowel_keys, coda_keys, entry, any_entry};
 
 // By onset row and vowel row.
 const CV_MATRIX: [[bool; 8]; 5] = [
@@ -188,7 +188,7 @@ pub fn lookup_coda(part: &[u32]) -> &'static [usize]
 
 // Whether a row goes with another; none goes with a row that there is not.
 fn allows<const N: usize>(matrix: &[[bool; N]], a: usize, b: usize) -> bool
-    ensures { result ≡ told matrix.now a b }
+    ensures { result ≡ entry matrix.now a b }
 {
     let Some(row) = matrix.get(a) else {
         return false;
@@ -199,7 +199,7 @@ fn allows<const N: usize>(matrix: &[[bool; N]], a: usize, b: usize) -> bool
 // Some row of the first part goes with some row of the second: the search ends at the first pair allowed.
 #[tactic(auto, using(crate::proofs::Matrices::none_told, crate::proofs::Matrices::one_told))]
 fn pair_valid<const N: usize>(matrix: &[[bool; N]], first: &[usize], second: &[usize]) -> bool
-    ensures { result ≡ any_told matrix.now first.now second.now }
+    ensures { result ≡ any_entry matrix.now first.now second.now }
 {
     for a in first {
         for b in second {

@@ -1,7 +1,8 @@
 -- How the code holds things: no sentence of document 01 stands here, and no promise to a host leads here.
 -- The cells in the parts that the code takes: those in use one by one, and the bytes past them, which are those of blank
 -- cells. proofs/Sound.antt shows that the two tests, after those of the head, are `bytes_sound`.
-use Rattle.std.specs.Prelude.{ℕ, ◌+◌, ◌-◌, Bool, false, List, ◌++◌, leb, take, drop, set}
+use Rattle.std.specs.Borrow.{LendsIf, Array, MutBor, Fml, u8}
+use Rattle.std.specs.Prelude.{ℕ, ◌+◌, ◌-◌, Bool, false, Option, List, ◌++◌, leb, take, drop, set}
 use Rattle.p0_choice.specs.Choice.{pick, each, from}
 use Rattle.p3_cells.specs.Cells.{is_cell}
 use Rattle.p3_cells.specs.declared.Cell.{Cell}
@@ -30,3 +31,7 @@ stored b i x = take (start i) b ++ (cell_bytes x ++ drop (start i + 8) b)
 -- the bytes with no cells
 unfoldable pub cleared : List ℕ → List ℕ
 cleared b = take head (set b 2 0) ++ zeros (size - head)
+
+-- the bytes end as what is left behind the array of them that is lent, and as they were where none is
+abbrev pub LendsBytes : MutBor (List ℕ) → Option (MutBor (List ℕ)) → Fml
+LendsBytes s r = LendsIf (Array u8 0) (Array u8 0) s r (λ (ws : List ℕ). ws) s.now

@@ -3,7 +3,7 @@
 
 ghost use Rattle.std.specs.Prelude.{◌≡◌, true, false, ◌<◌, ◌≤◌, MatchOption};
 ghost use Rattle.std.specs.Borrow.{sem};
-ghost use Rattle.p6_bytes.specs.Lending.{LendsBytes};
+ghost use Rattle.p6_bytes.specs.Mirror.{LendsBytes};
 ghost use Rattle.p3_cells.specs.Cells.{limit};
 ghost use Rattle.p3_cells.specs.Mirror.{cell_of};
 ghost use Rattle.p3_cells.specs.Text.{shown as shown_of};

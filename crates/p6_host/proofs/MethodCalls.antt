@@ -13,7 +13,7 @@ use Rattle.p0_refusals.specs.Refusals.{number_of}
 use Rattle.p0_refusals.specs.declared.Refusal.{Refusal}
 use Rattle.p0_refusals.specs.declared.Refusal.TheVariants.{Foreign, Unsound}
 use Rattle.p1_letters.specs.Alphabet.{in_alphabet}
-use Rattle.p2_input_method.specs.Numbers.{method_numbered}
+use Rattle.p2_input_method.specs.Mirror.{method_numbered}
 use Rattle.p2_input_method.specs.Rules.{is_tone_key, mark_for, is_horn_key}
 use Rattle.p2_input_method.specs.declared.InputMethod.{InputMethod}
 use Rattle.p2_input_method.specs.declared.InputMethod.TheVariants.{Telex, Vni}
