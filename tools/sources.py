@@ -59,6 +59,9 @@ class Function:
         others = [fact for fact in every if not TOLD.fullmatch(fact)]
         bound = [match[1] for match in (re.fullmatch(r"(\w+) : .*", fact) for fact in others) if match]
         about = " ".join(fact for fact in others if not re.match(r"\w+ : ", fact))
+        # an answer by cases, and bytes that are lent on and written back
+        equations += ["result" for fact in others if re.match(r"Match(?:Option|Result) result ", fact)]
+        equations += [f"{match[1]}.new" for match in (re.search(r"Lends\w+ (\w+)\.entry result", fact) for fact in others) if match]
         return set(equations) | {name for name in bound if re.search(rf"\b{name}\b", about)}
 
     def open_answers(self):
