@@ -1,8 +1,8 @@
 -- What is to be undone, as the code finds it.
 use Rattle.std.specs.Prelude.{None, Some}
-use Prim.Native.Nat.{ℕ, ◌+◌, ◌<◌, ◌≤◌}
-use mathlib.Core.Path.{◌≡◌, refl, ◌∙◌}
-use mathlib.Core.Bool.{Bool}
+use Prim.Native.Nat.{ℕ, ◌+◌, ◌-◌, ◌<◌, ◌≤◌}
+use mathlib.Core.Path.{◌≡◌, refl, ap, ◌∙◌}
+use mathlib.Core.Bool.{Bool, true, false}
 use mathlib.Core.List.{List}
 use native.Mathlib.Omega.{arith}
 use native.Mathlib.Numerals.{add-one}
@@ -26,6 +26,18 @@ pub with_turn : (p : Cell → Bool) (row : List ℕ) (i : ℕ)
     → last_with p (sign_cells row) (i + 1) ≡ pick (p (bearing (get_or row i 0))) (Some i) (last_with p (sign_cells row) i)
 unfolding last_with
 with_turn p row i = rw (add-one i, row_at row i) refl
+
+-- a loop from the end: b is the test of the cell before place i
+module _ (p : Cell → Bool) (row : List ℕ) (i : ℕ) (h : 0 < i) (b : Bool) (e : b ≡ p (bearing (get_or row (i - 1) 0)))
+    (w : last_with p (sign_cells row) (length row) ≡ last_with p (sign_cells row) i) where
+  turned : last_with p (sign_cells row) i ≡ pick b (Some (i - 1)) (last_with p (sign_cells row) (i - 1))
+  turned = let d : i ≡ i - 1 + 1 = omega arith in ap (last_with p (sign_cells row)) d ∙ rw e (with_turn p row (i - 1))
+
+  pub with_here : b ≡ true → Some (i - 1) ≡ last_with p (sign_cells row) (length row)
+  with_here t = rw (w ∙ turned, t) refl
+
+  pub with_on : b ≡ false → last_with p (sign_cells row) (length row) ≡ last_with p (sign_cells row) (i - 1)
+  with_on t = rw (w ∙ turned, t) refl
 
 -- ---- the rules
 -- the rules from one on: at the end none is left, and before it the first has a cell, or those from the next on are tried

@@ -2,12 +2,13 @@
 // in a lent row of the cells' signs, and stored at one place.
 #![tactic(auto)]
 
-ghost use Rattle.std.specs.Prelude.{◌≡◌, true, ◌<◌, ◌≤◌, ◌-◌, length};
+ghost use Rattle.std.specs.Prelude.{◌≡◌, ℕ, Bool, true, ◌<◌, ◌≤◌, ◌-◌, length};
 ghost use Rattle.p0_choice.specs.Choice.{among};
 ghost use Rattle.p0_choice.specs.Text.{word};
 ghost use Rattle.p2_input_method.specs.Rules.{mark_rules};
 ghost use Rattle.p2_input_method.specs.declared.InputMethod.TheVariants.{Telex};
 ghost use Rattle.p3_cells.specs.Cells.{is_sound, used};
+ghost use Rattle.p3_cells.specs.declared.Cell.{Cell};
 ghost use Rattle.p3_undo.specs.Raw.{raw_lowered, ends_in, pair_at, any_plain, active};
 ghost use Rattle.p3_undo.specs.Undo.{last_with, has_tone, has_mark, rule_at, by_rules, tone_at, to_undo, tone_lost as toneless_of};
 ghost use Rattle.p3_undo.specs.Undo.{restored as restored_of};
@@ -126,25 +127,14 @@ fn has_mark(m: u16, s: u32) -> bool
     s == u32::from(m)
 }
 
-// This and the next differ in the test. `row.iter().rposition(..)` was tried: no law of std leads from it to the row.
-#[tactic(auto, using(crate::proofs::Undo::with_turn, crate::proofs::Undo::with_none))]
-fn last_toned(row: &[u32], t: u32) -> Option<usize>
-    ensures { result ≡ last_with (has_tone t) (sign_cells row.now) (length row.now) }
+// The last cell whose sign passes the test.
+fn last_fitting<F: Fn(u32) -> bool>(row: &[u32], fits: F) -> Option<usize>
+    requires { F.IsAlwaysCallable fits }
+    ensures { (p : Cell → Bool) → ((s : ℕ) (b : Bool) → F.post fits s b → b ≡ p (bearing s))
+        → result ≡ last_with p (sign_cells row.now) (length row.now) }
 {
     for i in (0..row.len()).rev() {
-        if has_tone(t, row[i]) {
-            return Some(i);
-        }
-    }
-    None
-}
-
-#[tactic(auto, using(crate::proofs::Undo::with_turn, crate::proofs::Undo::with_none))]
-fn last_marked(row: &[u32], m: u16) -> Option<usize>
-    ensures { result ≡ last_with (has_mark m) (sign_cells row.now) (length row.now) }
-{
-    for i in (0..row.len()).rev() {
-        if has_mark(m, row[i]) {
+        if fits(row[i]) {
             return Some(i);
         }
     }
@@ -158,7 +148,7 @@ fn rule_at(row: &[u32], raw: &[u32], t: u32, r: MarkRule) -> Option<usize>
     ensures { result ≡ rule_at (sign_cells row.now) (raw_lowered raw.now) t r }
 {
     if r.key == t && has_active_mark_pattern(raw, r.first, r.key) {
-        last_marked(row, r.result)
+        last_fitting(row, |s| has_mark(r.result, s))
     } else {
         None
     }
@@ -181,7 +171,7 @@ fn tone_at(row: &[u32], raw: &[u32], t: u32) -> Option<usize>
     ensures { result ≡ tone_at (sign_cells row.now) (raw_lowered raw.now) t }
 {
     if ends_in(raw, t) {
-        last_toned(row, t)
+        last_fitting(row, |s| has_tone(t, s))
     } else {
         None
     }
