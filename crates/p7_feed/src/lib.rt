@@ -6,7 +6,7 @@ ghost use Rattle.p0_choice.specs.Choice.{pick};
 ghost use Rattle.p0_refusals.specs.Answers.{onto};
 ghost use Rattle.p7_line.specs.Line.{most};
 ghost use Rattle.p7_line.specs.Mirror.{line_room};
-ghost use Rattle.p7_feed.specs.Mirror.{state_of, part_most, out_room, end_phase, end_out, run_to, run_out, fed, finish_of, finish_out};
+ghost use Rattle.p7_feed.specs.Mirror.{state, state_of, part_most, out_room, end_phase, end_out, run_to, run_out, fed, finish_of, finish_out};
 
 use p2_input_method::InputMethod;
 use p7_line::MOST;
@@ -92,16 +92,15 @@ fn counts(phase: Phase, line: &[u8]) -> bool
     matches!(phase, Phase::Start) || !line.is_empty()
 }
 
-// The end of the input.
-pub fn finish(carry: &Carry, out: &mut [u8]) -> usize
+// The end of the input, where so much of a line is held.
+pub fn finish(held: &[u8], phase: Phase, out: &mut [u8]) -> usize
     requires { line_room ≤ length out.old }
-    ensures { (result ≡ length (finish_out (state_of carry.now))) × (result ≤ line_room)
-        × (out.new ≡ onto (finish_out (state_of carry.now)) out.old) }
+    ensures { (result ≡ length (finish_out (state held.now phase))) × (result ≤ line_room)
+        × (out.new ≡ onto (finish_out (state held.now phase)) out.old) }
 {
-    let held = slices::first(&carry.line, carry.len);
-    let mut phase = carry.phase;
     if !counts(phase, held) {
         return 0;
     }
-    end_line(&mut phase, held, out)
+    let mut last = phase;
+    end_line(&mut last, held, out)
 }

@@ -139,7 +139,8 @@ fn finish(rt: &(impl Print + Eprint), carry: &Carry, took: Took) -> ExitCode
     requires { (took.input ≡ NoMore) × (is_ok took.wrote ≡ true) }
 {
     let mut out = [0; p7_line::ROOM];
-    let n = p7_feed::finish(carry, &mut out);
+    let held = slices::first(&carry.line, carry.len);
+    let n = p7_feed::finish(held, carry.phase, &mut out);
     match rt.write_all(slices::first(&out, n)) {
         Ok(()) => ExitCode::SUCCESS,
         Err(error) => tell_unwritten(rt, error),
