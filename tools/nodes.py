@@ -183,7 +183,7 @@ def function(numbers):
 ghost use Rattle.std.specs.Prelude.{{◌≡◌}};
 ghost use Rattle.p5_listing.specs.Mirror.{{entry_at}};
 
-// How many nodes there are; as a node's number, none.
+// How many nodes there are; as a row's place, the empty row at the table's end.
 pub const COUNT: usize = {len(numbers)};
 
 pub const ROOT: usize = 0;

@@ -23,7 +23,7 @@ use p5_nodes as table;
 // How many words are listed; `word_count` says the same.
 const TOTAL: usize = 5963;
 
-// More than any letter, and than the words of any list: bounds that stop no scan.
+// More than any letter, and than the words of any list: bounds that stop no scan, so that one scan serves both walks.
 const NO_LETTER: u32 = u32::MAX;
 
 const MANY: usize = 65536;
@@ -78,8 +78,9 @@ struct Halt {
     entry: Entry,
 }
 
-// The first node from `from` on, in its row, whose letter is y or more or through which more than `left` words go. Of all
-// functions this one reads the table. A row's place is a plain number: a type for it would be taken apart at each step.
+// The first node from `from` on, in its row, whose letter is y or more or through which, with those before it, more than `most`
+// words go. Of all functions this one reads the table. A row's place is a plain number: a type for it would be taken apart at
+// each step.
 fn scan(from: usize, y: u32, most: usize) -> Option<Halt>
     requires { from ≤ node_count }
     ensures { MatchOption result (PassedAll from y most) (λ h. HaltsAt from y most h.node h.left h.entry.bits) }

@@ -5,7 +5,7 @@
 ghost use Rattle.std.specs.Prelude.{◌≡◌};
 ghost use Rattle.p5_listing.specs.Mirror.{entry_at};
 
-// How many nodes there are; as a node's number, none.
+// How many nodes there are; as a row's place, the empty row at the table's end.
 pub const COUNT: usize = 335;
 
 pub const ROOT: usize = 0;

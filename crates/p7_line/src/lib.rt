@@ -4,7 +4,6 @@
 ghost use Rattle.std.specs.Prelude.{◌≡◌, ◌≤◌, ◌<◌, length, take, true, [], MatchResult};
 ghost use Rattle.p1_letters.specs.Alphabet.{all_letters};
 ghost use Rattle.p0_refusals.specs.Answers.{writes, onto};
-ghost use Rattle.p3_cells.specs.Cells.{limit};
 ghost use Rattle.p3_cells.specs.Settings.{at_first};
 ghost use Rattle.p7_line.specs.Line.{digit, refused_line, text_line, keys_made, made_line, line_out};
 ghost use Rattle.p7_line.specs.Mirror.{line_room};
@@ -45,6 +44,7 @@ pub fn put_refused(refusal: Refusal, out: &mut [u8]) -> usize
     requires { 11 ≤ length out.old }
     ensures { (result ≡ length (refused_line refusal)) × (result ≤ line_room) × (out.new ≡ onto (refused_line refusal) out.old) }
 {
+    // by digits, since no clause names the bytes that a Formatter writes
     let number = u32::from(refusal);
     let next = slices::put(b"refused ", out, 0);
     if number < 10 {
@@ -91,8 +91,8 @@ fn text_line(text: &[u32], out: &mut [u8]) -> usize
 }
 
 // Keys on a fresh composition: how long its text is, or the refusal of the first append that finds all cells used.
-fn keys_typed(m: InputMethod, keys: &[u32], text: &mut [u32]) -> Result<usize, Refusal>
-    requires { (all_letters keys.now ≡ true) × (length text.old ≡ limit) }
+fn keys_typed(m: InputMethod, keys: &[u32], text: &mut [u32; LIMIT]) -> Result<usize, Refusal>
+    requires { all_letters keys.now ≡ true }
     ensures { MatchResult result
         (λ n. (all_letters (take n text.new) ≡ true)
         × (made_line (at_first m) (keys_made (at_first m) [] keys.now) ≡ text_line (take n text.new)))
@@ -109,8 +109,7 @@ fn keys_typed(m: InputMethod, keys: &[u32], text: &mut [u32]) -> Result<usize, R
 }
 
 // A line of keys: how long the text is, or why the line is refused.
-fn line_typed(m: InputMethod, line: &[u8], text: &mut [u32]) -> Result<usize, Refusal>
-    requires { length text.old ≡ limit }
+fn line_typed(m: InputMethod, line: &[u8], text: &mut [u32; LIMIT]) -> Result<usize, Refusal>
     ensures { MatchResult result
         (λ n. (all_letters (take n text.new) ≡ true) × (line_out m line.now ≡ text_line (take n text.new)))
         (λ r. line_out m line.now ≡ refused_line r) }

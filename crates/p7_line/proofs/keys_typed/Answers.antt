@@ -6,7 +6,7 @@ use Rattle.p7_line.proofs.Typing.{typing_first, typing_on, line_refused, line_ty
 use Rattle.p7_line.proofs.keys_typed.Goals as goal
 
 pub loop-key-init : goal.loop-key-init
-loop-key-init c = (c.requires.1, typing_first c.args.m c.args.keys.now c.new-c.result c.new-c.ensures _)
+loop-key-init c = (search rules, typing_first c.args.m c.args.keys.now c.new-c.result c.new-c.ensures _)
 
 pub process_sound_key-after-requires : goal.process_sound_key-after-requires
 process_sound_key-after-requires c = c.loop-key.invariant.1.sound
@@ -17,7 +17,7 @@ returns-in_err-count c =
     let k = c.process_sound_key-after in
     let p = err_from_is_err_and c.from_residual.result c.from_residual.ensures.1 in
     rw (p.1, p.2)
-    (line_refused c.args.m c.args.keys.now c.new-c.result c.new-c.ensures l.c l.text l.count l.key-index l.invariant.1 c.requires.0
+    (line_refused c.args.m c.args.keys.now c.new-c.result c.new-c.ensures l.c l.text l.count l.key-index l.invariant.1 c.requires
     c.loop-key-test.true l.invariant.0 _ refl k.result _ k.ensures.0 c.in_err-count.was)
 
 pub loop-key-preserved : goal.loop-key-preserved
@@ -25,7 +25,7 @@ loop-key-preserved c =
     let l = c.loop-key in
     let k = c.process_sound_key-after in (
       search rules,
-      typing_on c.new-c.result.settings c.args.keys.now l.c l.text l.count l.key-index l.invariant.1 c.requires.0
+      typing_on c.new-c.result.settings c.args.keys.now l.c l.text l.count l.key-index l.invariant.1 c.requires
           c.loop-key-test.true l.invariant.0 _ refl k.result _ _ k.ensures.0 c.in_ok-count.was k.ensures.1,
     )
 

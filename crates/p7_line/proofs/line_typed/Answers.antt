@@ -9,10 +9,8 @@ returns-in_err-n c =
     rw (p.1, p.2) (keys_refused _ _ _ c.read.ensures.value (search rules) _ c.in_err-n.was _)
 
 pub keys_typed-requires : goal.keys_typed-requires
-keys_typed-requires c = (
-  keys_letters _ _ _ c.read.ensures.value (search rules) _ _ _ c.in_ok-n.was c.read.ensures.out_after c.first.ensures,
-  c.requires,
-)
+keys_typed-requires c =
+    keys_letters _ _ _ c.read.ensures.value (search rules) _ _ _ c.in_ok-n.was c.read.ensures.out_after c.first.ensures
 
 pub returns : goal.returns
 returns c =
