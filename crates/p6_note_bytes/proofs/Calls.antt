@@ -45,6 +45,28 @@ either_way : {A : Type 0} (t : Bool) (r a : A) → (t ≡ false → r ≡ a) →
 either_way true r a f = refl
 either_way false r a f = f refl
 
+-- ---- bytes of another length
+module _ (b : List ℕ) (w : length b ≡ line_size → ⊥) where
+  no_size : line_bytes_sound b ≡ false
+  unfolding line_bytes_sound
+  no_size = go (spells_line b) refl
+    where
+      go : (t : Bool) → spells_line b ≡ t → pick t (line_sound (line_of b)) false ≡ false
+      go true e = absurd (w (spelt_size b e))
+      go false e = refl
+
+  pub size_answer : (xs : List ℕ) → Err Unsound ≡ line_part_on b xs
+  unfolding line_part_on
+  size_answer xs = rw no_size refl
+
+  pub size_bytes : (xs : List ℕ) → b ≡ line_part_bytes b xs
+  unfolding line_part_bytes
+  size_bytes xs = rw no_size refl
+
+  pub size_told : ◌≡◌ {A = Result Report Refusal} (Err Unsound) (line_answer_on b)
+  unfolding line_answer_on
+  size_told = rw no_size refl
+
 -- ---- by the answer g of the reading
 module _ (b : List ℕ) (g : Result Line Refusal) (e : g ≡ pick (spells_line b) (Ok (line_of b)) (Err Unsound)) where
   by_test : (v : Bool) → spells_line b ≡ v → (r : Refusal) → pick v (Ok (line_of b)) (Err Unsound) ≡ Err r
@@ -78,9 +100,6 @@ module _ (b : List ℕ) (g : Result Line Refusal) (e : g ≡ pick (spells_line b
 
     is : s ≡ line_of b
     is = (by_test_ok (spells_line b) refl (sym e ∙ h)).1
-
-    pub spelt_room : length b ≡ line_size
-    spelt_room = spelt_size b spelt
 
     unsound : line_bytes_sound b ≡ false → line_sound (line_of b) ≡ false
     unfolding line_bytes_sound

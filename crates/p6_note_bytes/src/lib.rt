@@ -69,12 +69,9 @@ fn line_of(b: &[u8; SIZE]) -> Line
 
 // The state that bytes spell, which is to be tested yet. Refusal: 10, for bytes that spell none.
 #[tactic(auto, unfolding(crate::specs::Bytes::spells_line))]
-fn read(state: &[u8]) -> Result<Line, Refusal>
-    ensures { result ≡ pick (spells_line state.now) (Ok (line_of state.now)) (Err Refusal.Unsound) }
+fn read(b: &[u8; SIZE]) -> Result<Line, Refusal>
+    ensures { result ≡ pick (spells_line b.now) (Ok (line_of b.now)) (Err Refusal.Unsound) }
 {
-    let Ok(b) = <&[u8; SIZE]>::try_from(state) else {
-        return Err(Refusal::Unsound);
-    };
     match b[0] {
         0 | 1 | 6 => Ok(line_of(b)),
         _ => Err(Refusal::Unsound),
@@ -124,10 +121,8 @@ fn head(s: Line) -> [u8; HEAD]
     ]
 }
 
-// Over a slice, as is `put_line`: to lend an array of it to be written would be a second `try_from`, with an error that cannot come.
 #[tactic(auto, using(crate::proofs::Writing::put_none, crate::proofs::Writing::put_done))]
-fn put_kept(b: &mut [u8], kept: &[u32; LONGEST])
-    requires { length b.old ≡ line_size }
+fn put_kept(b: &mut [u8; SIZE], kept: &[u32; LONGEST])
     ensures { b.new ≡ take kept_start b.old ++ kept_bytes kept.now }
 {
     for (i, x) in kept.iter().enumerate() {
@@ -137,8 +132,7 @@ fn put_kept(b: &mut [u8], kept: &[u32; LONGEST])
     }
 }
 
-fn put_line(b: &mut [u8], s: Line)
-    requires { length b.old ≡ line_size }
+fn put_line(b: &mut [u8; SIZE], s: Line)
     ensures { b.new ≡ line_bytes s }
 {
     b[..HEAD].copy_from_slice(&head(s));
@@ -153,9 +147,9 @@ pub fn begin(state: &mut [u8]) -> Result<usize, Refusal>
     ensures value { result ≡ line_begin_on state.old }
     ensures state_after { state.new ≡ line_begin_bytes state.old }
 {
-    if state.len() != SIZE {
+    let Some(state) = state.as_mut_array::<SIZE>() else {
         return Err(Refusal::Unsound);
-    }
+    };
     zeros::put_zeros(state, 0, SIZE);
     Ok(0)
 }
@@ -166,6 +160,9 @@ pub fn part(state: &mut [u8], letters: &[u32]) -> Result<usize, Refusal>
     ensures value { result ≡ line_part_on state.old letters.now }
     ensures state_after { state.new ≡ line_part_bytes state.old letters.now }
 {
+    let Some(state) = state.as_mut_array() else {
+        return Err(Refusal::Unsound);
+    };
     let s = read(state)?;
     let after = parts::part(s, letters);
     put_line(state, after.line);
@@ -176,5 +173,8 @@ pub fn part(state: &mut [u8], letters: &[u32]) -> Result<usize, Refusal>
 pub fn answer(state: &[u8]) -> Result<Report, Refusal>
     ensures { result ≡ line_answer_on state.now }
 {
+    let Some(state) = state.as_array() else {
+        return Err(Refusal::Unsound);
+    };
     parts::answer(read(state)?)
 }
