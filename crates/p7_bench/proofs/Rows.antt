@@ -16,10 +16,9 @@ use Rattle.p7_bench.specs.Floor.{Sheet, copied, free_place, longer, lay, blank_s
 use Rattle.p7_bench.proofs.Run.{Run, run_start, run_more, run_end}
 
 -- ---- the copy
-module _ (row d : List ℕ) (n : ℕ) (w : n ≤ length row) where
-  pub copy_short : length d < n → d ≡ copied (take n row) d
-  unfolding copied
-  copy_short h = rw (length-take-le n row (omega arith)) (pick_lt (length d) n _ _ _ h refl)
+pub copy_short : (row d : List ℕ) → length d < length row → d ≡ copied row d
+unfolding copied
+copy_short row d h = pick_lt (length d) (length row) _ _ _ h refl
 
 -- ---- the row
 pub record Laying (keys d text row : List ℕ) (count i : ℕ) : Type 0 where

@@ -1,20 +1,20 @@
 // The floor: what no key can be spared. It appends its letter to a row, as long as the cells of a composition, and copies the
 // letters so far to the text.
-ghost use Rattle.std.specs.Prelude.{◌≡◌, ◌<◌, ◌≤◌, length, take};
+ghost use Rattle.std.specs.Prelude.{◌≡◌, ◌<◌, length};
 ghost use Rattle.p3_cells.specs.Cells.{limit};
 ghost use Rattle.p7_bench.specs.Run.{after_keys};
 ghost use Rattle.p7_bench.specs.Floor.{copied, free_place, lay, blank_sheet};
 
 use p3_cells::LIMIT;
 
-// Copies the first n letters of the row to the start of a text that has room for them.
+// Copies letters to the start of a text that has room for them.
 #[tactic(auto, using(crate::proofs::Rows::copy_short), unfolding(crate::specs::Floor::copied))]
-fn copy(row: &[u32], n: usize, text: &mut [u32])
-    requires { n ≤ length row.now }
-    ensures { text.new ≡ copied (take n row.now) text.old }
+fn copy(letters: &[u32], text: &mut [u32])
+    ensures { text.new ≡ copied letters.now text.old }
 {
+    let n = letters.len();
     if n <= text.len() {
-        text[..n].copy_from_slice(&row[..n]);
+        text[..n].copy_from_slice(letters);
     }
 }
 
@@ -42,7 +42,7 @@ pub extern "C" fn pasdrongel_bench_floor(keys: &[u32], text: &mut [u32]) -> usiz
             let at = free_place(count);
             row[at] = *k;
             count = at + 1;
-            copy(&row, count, text);
+            copy(&row[..count], text);
         }
     }
     count
