@@ -78,14 +78,28 @@ pub line_laid : (x line : List ℕ) (len : ℕ) (part : List ℕ) (i : ℕ) → 
 unfolding line_after
 line_laid x line len part i h t = sym (t ∙ rw (drop_of_length-le part h) refl)
 
--- what is written from place n on
-pub written_on : (o ys e : List ℕ) (n : ℕ) → n ≤ length o → ys ≡ onto e (mid_of n (length o - n) o)
-    → put_mid n (length o - n) o ys ≡ take n o ++ onto e (drop n o)
-written_on o ys e n h f =
+-- what is written from place n on, where there are N places
+pub written_on : (o ys e : List ℕ) (n N : ℕ) → length o ≡ N → n ≤ length o → ys ≡ onto e (mid_of n (N - n) o)
+    → put_mid n (N - n) o ys ≡ take n o ++ onto e (drop n o)
+written_on o ys e n N k h f =
     let l : length (drop n o) ≡ length o - n = length-drop n o in
-    let m : mid_of n (length o - n) o ≡ drop n o = take_all (length o - n) (drop n o) (omega arith) in
-    let z : post_of n (length o - n) o ≡ [] = drop_of_length-le (drop n o) (omega arith) in
+    let m : mid_of n (N - n) o ≡ drop n o = take_all (N - n) (drop n o) (omega arith) in
+    let z : post_of n (N - n) o ≡ [] = drop_of_length-le (drop n o) (omega arith) in
     rw (f, m, z, append-nil) refl
+
+-- and the places stay as many
+pub written_long : (o o' e : List ℕ) (n N : ℕ) → length o ≡ N → n + length e ≤ N → o' ≡ take n o ++ onto e (drop n o) → length o' ≡ N
+written_long o o' e n N k h w =
+    let x = drop (length e) (drop n o) in
+    rw w
+    (omega (
+      arith,
+      length-append (take n o) (e ++ x),
+      length-append e x,
+      length-take-le n o (omega arith),
+      length-drop n o,
+      length-drop (length e) (drop n o),
+    ))
 
 -- ---- the output past what is printed
 pub past_end : (o o' o₀ e : List ℕ) (n r : ℕ) → n ≤ length o → r ≡ n + length e → o' ≡ take n o ++ onto e (drop n o)

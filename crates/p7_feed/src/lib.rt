@@ -59,8 +59,8 @@ fn end_line(phase: &mut Phase, line: &[u8], out: &mut [u8]) -> usize
 }
 
 // A part of the input; what it prints stands at the start of `out`, and how much it is is the answer.
-pub fn feed(part: &[u8], carry: &mut Carry, out: &mut [u8]) -> usize
-    requires { (length part.now ≤ part_most) × (carry.old.len ≤ most) × (length out.old ≡ out_room) }
+pub fn feed(part: &[u8], carry: &mut Carry, out: &mut [u8; ROOM]) -> usize
+    requires { (length part.now ≤ part_most) × (carry.old.len ≤ most) }
     ensures value { (result ≡ length (run_out (state_of carry.old) part.now)) × (result ≤ out_room) }
     ensures held { (state_of carry.new ≡ run_to (state_of carry.old) part.now) × (carry.new ≡ fed carry.old part.now)
         × (carry.new.len ≤ most) }

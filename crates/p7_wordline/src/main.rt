@@ -5,17 +5,17 @@
 ghost use Rattle.std.specs.Prelude.{◌≤◌, ◌≡◌, true, false, length, is_ok, MatchOption};
 ghost use Rattle.p0_refusals.specs.Answers.{onto};
 ghost use Rattle.p7_line.specs.Line.{most};
-ghost use Rattle.p7_feed.specs.Mirror.{state_of, part_most, out_room, run_to, run_out, fed};
+ghost use Rattle.p7_feed.specs.Mirror.{state_of, run_to, run_out, fed};
 ghost use Rattle.p7_wordline.specs.Mirror.{input_of, amount as amount_of, bytes_read, is_over, goes_on, Came};
 ghost use Rattle.p7_wordline.specs.declared.Input.TheVariants.{NoMore};
 
-use p7_feed::{Carry, Phase};
+use p7_feed::{Carry, PART, Phase, ROOM};
 use p7_slices as slices;
 use std::io;
 use std::io::{Error, Read, Stdin, Stdout};
 use std::process::ExitCode;
 
-// The number of the error of a read that a signal cut short.
+// The number of the error of a read that a signal cut short. By std's contract an error with no number can be of kind Interrupted too.
 const EINTR: i32 = 4;
 
 // What a read gave: so many bytes, the end of the input, or none, because a signal cut it short or it failed.
@@ -67,9 +67,14 @@ fn amount(input: Input) -> usize
 }
 
 // One read into `part`; what its bytes print stands at the start of `out`, and is written.
-fn turn(from: &mut Stdin, to: Stdout, part: &mut [u8], carry: &mut Carry, out: &mut [u8]) -> Took
-    requires { (length part.old ≡ part_most) × (carry.old.len ≤ most) × (length out.old ≡ out_room)
-        × (is_over carry.old.phase ≡ false) }
+fn turn(
+    from: &mut Stdin,
+    to: Stdout,
+    part: &mut [u8; PART],
+    carry: &mut Carry,
+    out: &mut [u8; ROOM],
+) -> Took
+    requires { (carry.old.len ≤ most) × (is_over carry.old.phase ≡ false) }
     ensures held { (state_of carry.new ≡ run_to (state_of carry.old) (bytes_read result.input part.new))
         × (carry.new ≡ fed carry.old (bytes_read result.input part.new)) × (carry.new.len ≤ most) }
     ensures printed { out.new ≡ onto (run_out (state_of carry.old) (bytes_read result.input part.new)) out.old }
@@ -110,8 +115,9 @@ fn run(from: &mut Stdin, to: Stdout, carry: &mut Carry) -> Option<Took>
     ensures came { Came carry.new }
     ensures last { MatchOption result (is_over carry.new.phase ≡ false) (λ took. goes_on took carry.new.phase ≡ false) }
 {
-    let mut part = [0; p7_feed::PART];
-    let mut out = [0; p7_feed::ROOM];
+    let mut part = [0; PART];
+    let mut out = [0; ROOM];
+    // a loop is proved to end, so the turns are counted
     for _turn in 0..u64::MAX {
         let took = turn(from, to, &mut part, carry, &mut out);
         if !goes_on(took, carry.phase) {
@@ -134,7 +140,7 @@ fn tell_unwritten(to: &impl Eprint, error: Error) -> ExitCode {
     fail(to, "not all was written", Some(error))
 }
 
-// The end of the input: the line at hand, which no line end has closed.
+// The end of the input: the line at hand, which no line end has closed. The clause alone asks for `took`.
 fn finish(rt: &(impl Print + Eprint), carry: &Carry, took: Took) -> ExitCode
     requires { (took.input ≡ NoMore) × (is_ok took.wrote ≡ true) }
 {

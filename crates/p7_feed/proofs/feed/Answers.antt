@@ -8,7 +8,7 @@ use lib.ListN.{length, length-set, take, drop_of_length-le}
 use lib.Seq.{length-take-le}
 use Rattle.p7_feed.specs.Mirror.{state, end_out, run_to, run_out, fed}
 use Rattle.p7_feed.proofs.Parts.{to_end, out_end, to_held, out_held, to_dropped, out_dropped, lay_end, lay_held, lay_dropped}
-use Rattle.p7_feed.proofs.Parts.{line_laid, written_on, past_end, printed}
+use Rattle.p7_feed.proofs.Parts.{line_laid, written_on, written_long, past_end, printed}
 use Rattle.p7_feed.proofs.feed.Goals as goal
 
 pub loop-b-preserved-then-b-eq10 : goal.loop-b-preserved-then-b-eq10
@@ -22,10 +22,11 @@ loop-b-preserved-then-b-eq10 c =
     let f = rw c.first-line.ensures at c.end_line-n.ensures.next in
     let e = rw c.first-line.ensures at c.end_line-n.ensures.count in
     let within : l.n ≤ length l.out = omega arith in
-    let w = written_on l.out _ (end_out k.phase (take k.len k.line)) l.n within (rw c.first-line.ensures at c.end_line-n.ensures.printed) in
+    let w = written_on l.out _ (end_out k.phase (take k.len k.line)) l.n _ v.out_long within
+    (rw c.first-line.ensures at c.end_line-n.ensures.printed) in
     record {
       line_long = v.line_long;
-      out_long = search rules;
+      out_long = written_long l.out _ (end_out k.phase (take k.len k.line)) l.n _ v.out_long (omega (arith, e.0, e.1)) w;
       held_most = omega arith;
       little = omega (arith, e.1);
       goes = to_end _ (take k.len k.line) k.phase part l.b-index h _ refl v.goes q _ f;

@@ -9,8 +9,6 @@ returns-then-not-goes_on-clause-came c = search answers
 
 pub loop-turn-preserved : goal.loop-turn-preserved
 loop-turn-preserved c = record {
-  part_long = search answers;
-  out_long = search answers;
   held_most = search answers;
   not_over = search answers;
   came = search answers;
