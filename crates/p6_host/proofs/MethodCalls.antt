@@ -14,7 +14,7 @@ use Rattle.p0_refusals.specs.declared.Refusal.{Refusal}
 use Rattle.p0_refusals.specs.declared.Refusal.TheVariants.{Foreign, Unsound}
 use Rattle.p1_letters.specs.Alphabet.{in_alphabet}
 use Rattle.p2_input_method.specs.Mirror.{method_numbered}
-use Rattle.p2_input_method.specs.Rules.{is_tone_key, mark_for, is_horn_key}
+use Rattle.p2_input_method.specs.Rules.{mark_for}
 use Rattle.p2_input_method.specs.declared.InputMethod.{InputMethod}
 use Rattle.p2_input_method.specs.declared.InputMethod.TheVariants.{Telex, Vni}
 use Rattle.p6_bytes.specs.Bytes.{method_of}
@@ -81,14 +81,10 @@ module _ (m : ℕ) (g : Result InputMethod Refusal) (q : g ≡ method_numbered m
     unfolding key_code
     key_code_lem key n h = rw (le-leb m 1 some.0) h
 
-    module _ (key a n old : ℕ) (s : Bool) (p : a ≡ flag_of s) (h : n ≡ letter_out key a old) where
-      pub tone_key_out : s ≡ is_tone_key w key → n ≡ key_out m key (flag_of (is_tone_key (method_of m) key)) old
+    module _ (key a n old : ℕ) (s : Bool) (p : a ≡ flag_of s) (i : n ≡ letter_out key a old) where
+      pub asked_key_out : (h : InputMethod → Bool) → s ≡ h w → n ≡ key_out m key (flag_of (h (method_of m))) old
       unfolding key_out
-      tone_key_out f = rw (le-leb m 1 some.0, ← some.1, ← f, ← p) h
-
-      pub horn_key_out : s ≡ is_horn_key w key → n ≡ key_out m key (flag_of (is_horn_key (method_of m) key)) old
-      unfolding key_out
-      horn_key_out f = rw (le-leb m 1 some.0, ← some.1, ← f, ← p) h
+      asked_key_out h f = rw (le-leb m 1 some.0, ← some.1, ← f, ← p) i
 
     module _ (base : ℕ) (s : Bool) (i : s ≡ in_alphabet base) where
       pub mark_foreign : (key n : ℕ) → s ≡ false → n ≡ number_of Foreign → n ≡ mark_code m base key
