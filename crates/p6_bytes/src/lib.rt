@@ -125,7 +125,7 @@ pub fn checked(b: &[u8]) -> Option<&[u8; SIZE]>
     if is_sound(b) { Some(b) } else { None }
 }
 
-// The same, to be written.
+// The same, to be written: a second function, as nothing is generic over `mut`.
 #[tactic(auto, using(crate::proofs::Sound::no_size))]
 pub fn checked_mut(b: &mut [u8]) -> Option<&mut [u8; SIZE]>
     ensures* writes_back { sem 𝓛 (LendsBytes b.entry result) }

@@ -30,7 +30,8 @@ use p6_bytes as bytes;
 use p6_bytes::SIZE;
 use p6_zeros as zeros;
 
-// The text of the first n cells, from the start of an output that has room for it.
+// The text of the first n cells, from the start of an output that has room for it. Beside `fill` it stands on its own: a letter is read from the
+// bytes by its place, and not of a Cell, and what follows the text is promised too.
 fn text(b: &[u8; SIZE], n: usize, out: &mut [u32])
     requires { (n ≤ limit) × (n ≤ length out.old) }
     ensures { out.new ≡ first_text (composition_of b.now) n ++ drop n out.old }
@@ -231,6 +232,7 @@ fn undo_found(state: &mut [u8; SIZE], n: usize, raw: &[u32], t: u32) -> Result<u
     }
 }
 
+// What becomes of the trigger is 0 or 1 in a usize: all calls of document 01 answer by one type, over which `answer_on` and `bytes_on` are stated.
 pub fn undo_telex_transform(state: &mut [u8], trigger: u32, raw: &[u32]) -> Result<usize, Refusal>
     ensures { (result ≡ answer_on state.old (undo_on state.old trigger raw.now))
         × (state.new ≡ bytes_on state.old (undo_on state.old trigger raw.now)) }

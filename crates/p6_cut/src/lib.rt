@@ -15,7 +15,8 @@ pub struct CutWord<'a> {
     pub places: CutPlaces,
 }
 
-// The places of a word's cut. A refused word is cut past its end, so that all its parts are empty.
+// The places of a word's cut. A refused word is cut past its end, so that all its parts are empty: a host then asks for parts without
+// an answer to take apart first, where an Option would be one.
 #[tactic(auto, unfolding(crate::specs::Cut::places_after))]
 pub fn places_of(word: &[u32]) -> CutPlaces
     ensures { result ≡ places_after word.now }
@@ -28,6 +29,7 @@ pub fn places_of(word: &[u32]) -> CutPlaces
     spelling::partition(word).unwrap_or(past_end)
 }
 
+// The parts by a word and places that a host keeps apart: three names, as the parts of p4_spelling and of document 01 are three.
 pub fn onset_between(word: &[u32], places: CutPlaces) -> &[u32]
     ensures { result.now ≡ onset_part word.now places }
 {

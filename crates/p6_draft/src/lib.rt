@@ -14,7 +14,7 @@ use p3_cells::{Cell, LIMIT, Settings};
 use p6_bytes as bytes;
 use p6_zeros as zeros;
 
-// The tags, in the order of their fields.
+// The tags, in the order of their fields: numbers, as docs/DRAFTS.md has them.
 const METHOD: u8 = 1;
 
 const MODE: u8 = 2;
@@ -36,6 +36,7 @@ pub const FRAME: usize = HEAD + FIELD;
 
 // ---- writing
 
+// What these functions ask of a length relates a place to it, as the bound of an index does: no type of the bytes could carry it.
 // A field of one byte.
 #[tactic(auto, unfolding(crate::specs::Mirror::put_at, crate::specs::Draft::field))]
 fn put_field(draft: &mut [u8], at: usize, tag: u8, value: u8)
