@@ -1,7 +1,7 @@
 // The state of a note line as bytes, for a host in C: read, tested and written. docs/BYTES.md states their order.
 #![tactic(auto)]
 
-ghost use Rattle.std.specs.Prelude.{◌≡◌, ◌++◌, ◌+◌, ◌≤◌, length, take};
+ghost use Rattle.std.specs.Prelude.{◌≡◌, ◌++◌, ◌+◌, ◌≤◌, take};
 ghost use Rattle.p0_choice.specs.Choice.{pick};
 ghost use Rattle.p4_spelling.specs.Verdict.{longest_length};
 ghost use Rattle.p6_note_bytes.specs.Bytes.{kept_start, line_size, standing_byte, two_bytes, kept_bytes, line_head, line_bytes};
