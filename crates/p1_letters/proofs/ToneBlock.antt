@@ -50,7 +50,7 @@ range_right : (t : ℕ) → t ≤ 120 → by_range t ≡ tone_column t
 unfolding by_range tone_column word
 range_right t h = eqb-true _ _ (each_count (λ (k : ℕ). eqb (by_range k) (tone_column k)) 121 0 tt t (omega arith) (omega arith))
 
-column_past : (t : ℕ) → 120 < t → 0 ≡ tone_column t
+pub column_past : (t : ℕ) → 120 < t → 0 ≡ tone_column t
 unfolding keys word
 column_past t h = no_column t t (among_above keys 120 tt t h)
 
@@ -87,19 +87,19 @@ none_column t = go (tone_column t) (eqb (tone_column t) 0) refl
     go k false e q = let z : ◌≡◌ {A = ℕ} 0 1 = cc in absurd (omega arith)
 
 module _ (t : ℕ) where
-  column_low : t < 49 → 0 ≡ tone_column t
+  pub column_low : t < 49 → 0 ≡ tone_column t
   unfolding by_range
   column_low h = rw (← range_right t (omega arith)) (search picks)
 
-  column_digit : 49 ≤ t → t ≤ 53 → t - 48 ≡ tone_column t
+  pub column_digit : 49 ≤ t → t ≤ 53 → t - 48 ≡ tone_column t
   unfolding by_range
   column_digit l h = rw (← range_right t (omega arith)) (search picks)
 
-  column_between : 49 ≤ t → 53 < t → t < 102 → 0 ≡ tone_column t
+  pub column_between : 49 ≤ t → 53 < t → t < 102 → 0 ≡ tone_column t
   unfolding by_range
   column_between k l h = rw (← range_right t (omega arith)) (search picks)
 
-  column_letter : 102 ≤ t → t ≤ 120 → 0x10000b000005002 / 2 ^ (3 * (t - 102)) % 8 ≡ tone_column t
+  pub column_letter : 102 ≤ t → t ≤ 120 → 0x10000b000005002 / 2 ^ (3 * (t - 102)) % 8 ≡ tone_column t
   unfolding by_range
   column_letter k h =
       let i : 49 ≤ t = omega arith in let j : 53 < t = omega arith in rw (← range_right t h) (search picks)

@@ -15,6 +15,9 @@ is_horn_key_only κs a = (tt, λ z z' w w' q q'. (alike q q', refl))
 pub telex_rules_only : OneAnswer own.telex_rules.Kinds.ps own.telex_rules.Kinds.r own.telex_rules.Reads.Asked own.telex_rules.Reads.Learnt
 telex_rules_only κs a = (tt, λ z z' w w' q q'. (alike q q', refl))
 
+pub telex_rule_only : OneAnswer own.telex_rule.Kinds.ps own.telex_rule.Kinds.r own.telex_rule.Reads.Asked own.telex_rule.Reads.Learnt
+telex_rule_only κs a = (tt, λ z z' w w' q q'. (alike q q', refl))
+
 pub input_method_try_from_u32_only :
     OneAnswer own.InputMethodTryFromU32.try_from.Kinds.ps own.InputMethodTryFromU32.try_from.Kinds.r
     own.InputMethodTryFromU32.try_from.Reads.Asked own.InputMethodTryFromU32.try_from.Reads.Learnt

@@ -6,6 +6,7 @@ use Rattle.p0_refusals.specs.declared.Refusal.TheVariants.{Unsound}
 use Rattle.p2_input_method.specs.Rules.{mark_for}
 use Rattle.p2_input_method.specs.declared.InputMethod.{InputMethod}
 use Rattle.p2_input_method.specs.declared.InputMethod.TheVariants.{Telex, Vni}
+use Rattle.p2_input_method.specs.declared.MarkRule.{MarkRule}
 
 -- the letter that base and key make, where they make one
 unfoldable pub mark_found : InputMethod → ℕ → ℕ → Option ℕ
@@ -14,3 +15,7 @@ mark_found m b k = pick (eqb (mark_for m b k) 0) None (Some (mark_for m b k))
 -- the method that a host names by a number; one that is none is refused as what is not sound
 unfoldable pub method_numbered : ℕ → Result InputMethod Refusal
 method_numbered n = pick (eqb n 0) (Ok Telex) (pick (eqb n 1) (Ok Vni) (Err Unsound))
+
+-- what stands past the last rule
+abbrev pub no_rule : MarkRule
+no_rule = record { first = 0; key = 0; result = 0 }

@@ -1,9 +1,9 @@
 // The two input methods (input_method.rs): tone keys, and mark rules in order.
 #![tactic(auto)]
 
-ghost use Rattle.std.specs.Prelude.{◌≡◌};
+ghost use Rattle.std.specs.Prelude.{◌≡◌, get_or};
 ghost use Rattle.p2_input_method.specs.Rules.{is_tone_key, mark_rules, is_horn_key};
-ghost use Rattle.p2_input_method.specs.Mirror.{mark_found, method_numbered};
+ghost use Rattle.p2_input_method.specs.Mirror.{mark_found, method_numbered, no_rule};
 ghost use Rattle.p2_input_method.specs.declared.InputMethod.TheVariants.{Telex};
 
 use p0_refusals::Refusal;
@@ -21,6 +21,8 @@ pub struct MarkRule {
     pub key: u32,
     pub result: u16,
 }
+
+pub const TELEX_RULES: usize = 7;
 
 // The method that a host names by a number: 0 is Telex, 1 is VNI.
 impl TryFrom<u32> for InputMethod {
@@ -84,7 +86,7 @@ pub fn is_horn_key(m: InputMethod, k: u32) -> bool
 
 // Telex's rules in order, aw aa ee oo ow uw dd.
 #[tactic(auto, unfolding(crate::specs::Rules::mark_rules, crate::specs::Rules::mark_rule, p0_choice::specs::Text::word))]
-pub fn telex_rules() -> [MarkRule; 7]
+pub fn telex_rules() -> [MarkRule; TELEX_RULES]
     ensures { result ≡ mark_rules Telex }
 {
     [
@@ -124,4 +126,15 @@ pub fn telex_rules() -> [MarkRule; 7]
             result: 0x111,
         },
     ]
+}
+
+// One of them by its number, for every number: past the last, a rule of no letters.
+pub fn telex_rule(i: usize) -> MarkRule
+    ensures { result ≡ get_or (mark_rules Telex) i no_rule }
+{
+    telex_rules().get(i).copied().unwrap_or(MarkRule {
+        first: 0,
+        key: 0,
+        result: 0,
+    })
 }

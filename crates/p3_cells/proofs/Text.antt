@@ -1,5 +1,5 @@
 -- The text of a cell, and writing the text of the cells in use from the start of an output.
-use Prim.Native.Nat.{ℕ, zero, suc, ◌+◌, ◌<◌, ◌≤◌}
+use Prim.Native.Nat.{ℕ, zero, suc, ◌+◌, ◌^◌, ◌<◌, ◌≤◌}
 use mathlib.Core.Path.{◌≡◌, refl, sym, ap, ◌∙◌}
 use mathlib.Core.Bool.{Bool, true, false, not}
 use mathlib.Core.List.{List, [], ◌∷◌, ◌++◌, map}
@@ -8,7 +8,7 @@ use native.Mathlib.Numerals.{add-one}
 use lib.ListN.{length, get_or, take, drop, set, length-map}
 use Rattle.std.proofs.Math.Seq.{take-length}
 use Rattle.std.proofs.lemmas.List.{length-take-le}
-use borrow.Author.Tests.{not-true}
+use borrow.Author.Tests.{not-true, ne_eqb}
 use Rattle.p0_choice.proofs.Choices.{pick_false}
 use Rattle.p1_letters.proofs.ToneOn.{no_tone}
 use Rattle.p3_cells.specs.Cells.{limit, blank, used}
@@ -34,6 +34,19 @@ tone_off_lem : (x : Cell) → packed_cell x < 281474976710656 → x.tone ≡ 0
 unfolding packed_cell
 tone_off_lem x h = omega arith
 
+-- and below 2^32
+base_letter : (x : Cell) → packed_cell x < 4294967296 → x.base ≡ letter_of x
+unfolding packed_cell letter_of
+base_letter x h = let z : x.mark ≡ 0 = omega arith in rw z refl
+
+mark_some : (x : Cell) → x.base < 2 ^ 32 → 4294967296 ≤ packed_cell x → packed_cell x < 281474976710656 → x.mark ≡ 0 → ⊥
+unfolding packed_cell
+mark_some x b m h z = let t = tone_off_lem x h in let f = flag_off x h in let k = rw f at m in omega arith
+
+mark_letter : (x : Cell) → (x.mark ≡ 0 → ⊥) → x.mark ≡ letter_of x
+unfolding letter_of
+mark_letter x d = rw (ne_eqb x.mark 0 d) refl
+
 -- ---- a cell, under either setting
 module _ (k : Bool) (x : Cell) where
   pub shown_small : (t : ℕ) → t ≡ toned_letter x → not x.upper ≡ true → t ≡ shown k x
@@ -46,6 +59,13 @@ module _ (k : Bool) (x : Cell) where
 
   pub shown_plain : (w l : ℕ) → w ≡ packed_cell x → w < 281474976710656 → l ≡ letter_of x → l ≡ shown k x
   shown_plain w l e h q = let p = rw e at h in shown_bare l (tone_off_lem x p) (flag_off x p) q
+
+  -- nor a mark; and a mark alone
+  pub shown_base : (w : ℕ) → w ≡ packed_cell x → w < 4294967296 → x.base ≡ shown k x
+  shown_base w e h = shown_plain w x.base e (omega arith) (base_letter x (rw e at h))
+
+  pub shown_mark : (w : ℕ) → w ≡ packed_cell x → x.base < 2 ^ 32 → 4294967296 ≤ w → w < 281474976710656 → x.mark ≡ shown k x
+  shown_mark w e b m h = shown_plain w x.mark e h (mark_letter x (mark_some x b (rw e at m) (rw e at h)))
 
 pub text_length : (k : Bool) (xs : List Cell) → length (text_of k xs) ≡ length xs
 unfolding text_of

@@ -189,13 +189,19 @@ fn flagged(capitals: bool, letter: u32) -> u32
     }
 }
 
-// Most cells have neither a tone nor a flag, which one comparison tells.
-#[tactic(auto, using(crate::proofs::Text::shown_plain), unfolding(crate::specs::Text::shown))]
+// Most cells have neither a tone nor a flag, which one comparison tells; of these the number tells whether there is a mark.
+#[tactic(auto, using(crate::proofs::Text::shown_base, crate::proofs::Text::shown_mark), unfolding(crate::specs::Text::shown))]
 pub fn shown(capitals: bool, x: Cell) -> u32
     ensures { result ≡ shown_of capitals x }
 {
-    if packed(x) < TONE_AT {
-        return letter_of(x);
+    let Cell { base, mark, .. } = x;
+    let number = packed(x);
+    if number < TONE_AT {
+        return if number < MARK_AT {
+            base
+        } else {
+            u32::from(mark)
+        };
     }
     let letter = toned_letter(x);
     if x.upper {

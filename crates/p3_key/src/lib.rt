@@ -113,11 +113,11 @@ fn stroke_of(sound: bool, z: Settings, row: &[u32], key: u32, n: usize, room: us
 fn fault(x: Cell) -> u64
     ensures { (eqb result 0 ≡ is_cell x) × (result ≤ 1) }
 {
-    // returned at once, which LLVM makes one test of the cell's number
-    if x.base < 128 && x.mark == 0 && x.tone == 0 {
+    // returned at once, which LLVM makes one test of the cell's number; with one place for both zeros the loop has one jump back
+    if (x.base < 128 && x.mark == 0 && x.tone == 0) || cells::is_cell(x) {
         return 0;
     }
-    u64::from(!cells::is_cell(x))
+    1
 }
 
 #[tactic(auto, unfolding(crate::specs::Mirror::sound_by))]
@@ -144,9 +144,10 @@ fn compose<const TRUSTED: bool>(mut c: Composition, key: u32, out: &mut [u32]) -
     let mut bases = [0; LIMIT];
     let mut faults: u64 = 0;
     for (i, cell) in c.cells[..used].iter().enumerate() {
-        bases[i] = cell.base;
-        faults += fault(*cell);
-        left -= cells::packed(*cell);
+        let x = *cell;
+        bases[i] = x.base;
+        faults += fault(x);
+        left -= cells::packed(x);
     }
     let sound = is_sound(TRUSTED, n, faults + left);
     let e = stroke_of(sound, c.settings, &bases[..used], key, n, out.len());

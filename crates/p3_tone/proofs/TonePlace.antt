@@ -154,11 +154,11 @@ module _ (row : List ℕ) (start : ℕ) (v : Seen) (e : start ≡ syllable_start
     unfolding seen_of
     first_below = let l = found in rw f (below 0 (omega arith))
 
-    before_below : v.before < length row
+    pub before_below : v.before < length row
     unfolding seen_of
     before_below = let l = found in rw f (below (length vs - 2) (omega arith))
 
-    last_below : v.last < length row
+    pub last_below : v.last < length row
     unfolding seen_of
     last_below = let l = found in rw f (below (length vs - 1) (omega arith))
 

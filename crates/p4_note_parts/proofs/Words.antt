@@ -1,7 +1,7 @@
 -- The open word: its verdict, the counts with it, and the states that a letter more makes of it.
 use Rattle.std.specs.Prelude.{Ok}
 use Prim.Native.Nat.{ℕ, ◌+◌, ◌-◌, ◌≤◌}
-use mathlib.Core.Path.{◌≡◌, refl, ◌∙◌}
+use mathlib.Core.Path.{◌≡◌, refl, ap, ◌∙◌}
 use mathlib.Core.Bool.{Bool, true, false}
 use mathlib.Core.List.{List}
 use native.Mathlib.Numerals.{add-one}
@@ -9,7 +9,7 @@ use native.Mathlib.Omega.{arith}
 use mir.Syntax.{w64}
 use mir.Val.{Fits}
 use lib.Dec.{ltb}
-use lib.ListN.{set}
+use lib.ListN.{length, set}
 use borrow.Author.Tests.{ne_eqb}
 use Rattle.p0_choice.specs.Choice.{pick}
 use Rattle.p4_spelling.specs.Verdict.{longest_length}
@@ -17,9 +17,9 @@ use Rattle.p4_note_line.specs.declared.Report.{Report}
 use Rattle.p4_note_line.specs.Line.{line_limit}
 use Rattle.p4_note_line.specs.Mirror.{one_more}
 use Rattle.p4_note_parts.specs.declared.Line.{Line}
-use Rattle.p4_note_parts.specs.State.{blank_letters, line_sound}
+use Rattle.p4_note_parts.specs.State.{blank_letters, letters_fit, line_sound}
 use Rattle.p4_note_parts.specs.Parts.{open_accepted, word_more, counted_all, gap_taken, letter_taken}
-use Rattle.p4_note_parts.proofs.Soundness.{sound_facts}
+use Rattle.p4_note_parts.proofs.Soundness.{blank_kept, sound_facts}
 
 module _ (s : Line) where
   -- ---- the counts: with no open word, and with one of the verdict v
@@ -51,6 +51,23 @@ module _ (s : Line) where
       ≡ gap_taken s
   unfolding gap_taken
   closed n e = rw (e, add-one)
+
+  -- one where no word stands open
+  pub spaced : line_sound s ≡ true → length s.letters ≡ longest_length → s.run ≡ 0
+      → record {
+        letters = s.letters;
+        length = s.length + 1;
+        run = s.run;
+        words = s.words;
+        noes = s.noes;
+        first = s.first;
+        standing = Ok tt;
+      }
+      ≡ gap_taken s
+  unfolding gap_taken counted_all
+  spaced h k z =
+      let f : letters_fit 0 s.letters ≡ true = rw z at (sound_facts s h).letters in
+      rw (blank_kept s.letters f ∙ ap blank_letters k, z, add-one)
 
   -- a word's letter; `kept` is what then is kept
   pub lengthened : (x : ℕ) (kept : List ℕ) → kept ≡ pick (ltb s.run longest_length) (set s.letters s.run x) s.letters

@@ -129,12 +129,19 @@ fn counted(s: Line) -> Report
     told
 }
 
-// The open word has ended by a gap.
-#[tactic(auto, using(crate::proofs::Words::closed, crate::proofs::Words::length_fits), unfolding(crate::specs::State::begun))]
+// A letter of a gap, by which an open word has ended. Where none stands open, no more is to be told than the length.
+#[tactic(auto, using(crate::proofs::Words::spaced, crate::proofs::Words::closed, crate::proofs::Words::length_fits), unfolding(crate::specs::State::begun))]
 fn close(s: Line) -> Line
     requires { line_sound s ≡ true }
     ensures { result ≡ gap_taken s }
 {
+    if s.run == 0 {
+        return Line {
+            length: s.length + 1,
+            standing: Ok(()),
+            ..s
+        };
+    }
     let n = counted(s);
     Line {
         length: s.length + 1,

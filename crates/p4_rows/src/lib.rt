@@ -201,14 +201,16 @@ fn allows<const N: usize>(matrix: &[[bool; N]], a: usize, b: usize) -> bool
 fn pair_valid<const N: usize>(matrix: &[[bool; N]], first: &[usize], second: &[usize]) -> bool
     ensures { result ≡ any_entry matrix.now first.now second.now }
 {
-    for a in first {
+    let mut valid = false;
+    'pairs: for a in first {
         for b in second {
             if allows(matrix, *a, *b) {
-                return true;
+                valid = true;
+                break 'pairs;
             }
         }
     }
-    false
+    valid
 }
 
 // Some row of the onset goes with some row of the vowels.

@@ -24,6 +24,9 @@ shown_only κs a asked z z' w w' q q' = (alike q q', refl)
 pub clear_only : OneAnswer own.clear.Kinds.ps own.clear.Kinds.r own.clear.Reads.Asked own.clear.Reads.Learnt
 clear_only κs a = (tt, λ z z' w w' q q'. (refl, λ i. (alike q q' i, tt)))
 
+pub flag_byte_only : OneAnswer own.flag_byte.Kinds.ps own.flag_byte.Kinds.r own.flag_byte.Reads.Asked own.flag_byte.Reads.Learnt
+flag_byte_only κs a = (tt, λ z z' w w' q q'. (alike q q', refl))
+
 pub bytes_ok_only : OneAnswer own.bytes_ok.Kinds.ps own.bytes_ok.Kinds.r own.bytes_ok.Reads.Asked own.bytes_ok.Reads.Learnt
 bytes_ok_only κs a = (tt, λ z z' w w' q q'. (alike q q', refl))
 

@@ -36,13 +36,19 @@ pub fn cell(b: &[u8; SIZE], i: usize) -> Cell
     }
 }
 
+pub fn flag_byte(on: bool) -> u8
+    ensures { result ≡ flag_byte on }
+{
+    u8::from(on)
+}
+
 #[tactic(auto, unfolding(crate::specs::Bytes::cell_bytes))]
 fn cell_bytes(x: Cell) -> [u8; 8]
     ensures { result ≡ cell_bytes x }
 {
     let [b0, b1, b2, b3] = x.base.to_le_bytes();
     let [b4, b5] = x.mark.to_le_bytes();
-    [b0, b1, b2, b3, b4, b5, x.tone, u8::from(x.upper)]
+    [b0, b1, b2, b3, b4, b5, x.tone, flag_byte(x.upper)]
 }
 
 #[tactic(auto, unfolding(crate::specs::Mirror::stored))]

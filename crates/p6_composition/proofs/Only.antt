@@ -1,4 +1,5 @@
 -- No second answer fits a public function's contract, and no second content of a place that is lent to it.
+use mathlib.Core.Path.{refl}
 use Rattle.p0_choice.proofs.Only.{OneAnswer, alike}
 use Rattle.p6_composition.proofs as own
 
@@ -22,6 +23,9 @@ undo_telex_transform_only κs a = (tt, λ z z' w w' q q'. (alike q.0 q'.0, λ i.
 
 pub get_output_only : OneAnswer own.get_output.Kinds.ps own.get_output.Kinds.r own.get_output.Reads.Asked own.get_output.Reads.Learnt
 get_output_only κs a = (tt, λ z z' w w' q q'. (alike q.0 q'.0, λ i. (tt, (alike q.1 q'.1 i, tt))))
+
+pub method_of_only : OneAnswer own.method_of.Kinds.ps own.method_of.Kinds.r own.method_of.Reads.Asked own.method_of.Reads.Learnt
+method_of_only κs a = (tt, λ z z' w w' q q'. (alike q q', refl))
 
 pub set_method_only : OneAnswer own.set_method.Kinds.ps own.set_method.Kinds.r own.set_method.Reads.Asked own.set_method.Reads.Learnt
 set_method_only κs a = (tt, λ z z' w w' q q'. (alike q.0 q'.0, λ i. (alike q.1 q'.1 i, (tt, tt))))

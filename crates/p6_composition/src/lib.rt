@@ -12,7 +12,7 @@ ghost use Rattle.p3_step.specs.Mirror.{step_of};
 ghost use Rattle.p3_key.specs.Process.{key_outcome};
 ghost use Rattle.p3_undo.specs.Raw.{raw_lowered};
 ghost use Rattle.p3_undo.specs.Undo.{to_undo};
-ghost use Rattle.p6_bytes.specs.Bytes.{composition_of, bytes_sound};
+ghost use Rattle.p6_bytes.specs.Bytes.{composition_of, method_of, bytes_sound};
 ghost use Rattle.p6_composition.specs.Mirror.{applied, found_on};
 ghost use Rattle.p6_composition.specs.UndoAnswer.{undo_number};
 ghost use Rattle.p6_composition.specs.Calls.{answer_on, bytes_on, out_on, key_on, reset_on, literal_on, removal_on, undo_on};
@@ -20,6 +20,7 @@ ghost use Rattle.p6_composition.specs.Calls.{method_on, mode_on, capitals_on, te
 
 use p0_refusals::{LETTERS, Refusal};
 use p1_letters as letters;
+use p2_input_method::InputMethod;
 use p3_cells as cells;
 use p3_cells::{Cell, LIMIT, Mode, Settings};
 use p3_step as step;
@@ -251,6 +252,19 @@ pub fn undo_telex_transform(state: &mut [u8], trigger: u32, raw: &[u32]) -> Resu
     }
     let t = letters::ascii_lower(trigger);
     undo_found(state, bytes::cell_count(state), raw, t)
+}
+
+// ---- the method of a number, whatever the number: who is to refuse those from 2 on asks `InputMethod::try_from`
+
+#[tactic(auto, unfolding(p6_bytes::specs::Bytes::method_of))]
+pub fn method_of(method: u32) -> InputMethod
+    ensures { result ≡ method_of method }
+{
+    if method == 0 {
+        InputMethod::Telex
+    } else {
+        InputMethod::Vni
+    }
 }
 
 // ---- the settings by their numbers, each stored as the byte that it is: by `try_from` it would be turned back into its number

@@ -39,7 +39,7 @@ read_small s xs e = go (ltb byte_limit (length s)) refl e
         (omega (arith, many_bytes xs), h.1)
 
 module _ (s : List ℕ) (m : ℕ) (g : Result ℕ Refusal) (e : g ≡ answer (reading s) m) (l : m ≡ byte_limit) (r : Refusal) (q : g ≡ Err r) where
-  read_refused : reading s ≡ refuses r
+  pub read_refused : reading s ≡ refuses r
   unfolding answer
   read_refused = go (reading s) refl (sym q ∙ e)
     where
